@@ -1,0 +1,3 @@
+pub mod Relegging
+pub mod Turning
+pub mod Entering

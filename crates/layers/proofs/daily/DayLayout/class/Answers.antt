@@ -1,0 +1,29 @@
+use borrow.Author.Needs.{needs}
+use mathlib.Core.Path.{refl, _∙_}
+use Rattle.std.specs.Options.{mapped, valueOr}
+use Rattle.std.specs.declared.option.Option.the-variants.{Some, None}
+use Rattle.layers.specs.Day.{entered-leg, replacing}
+use Rattle.layers.proofs.Relegging.{figure-made, leg-below}
+use Rattle.layers.proofs.daily.DayLayout.class.Needs as need
+
+pub returns-in-Break-own : need.returns-in-Break-own
+returns-in-Break-own g c =
+    let s = c .args .self .now .sheet in
+    let leg = c .args .leg in
+    let legs = g .L·Layout .meaning (c .args .self .now .below) .legs in
+    let entered = figure-made (entered-leg s) (λ l. l .class) (λ l. l .class) (λ own. valueOr (mapped (λ by. by .class) (replacing s leg)) own) legs leg (λ l. refl) in
+    c .from-residual .ensures ∙ entered None (c .in-Break-own .ensures tt)
+
+pub class-of-requires : need.class-of-requires
+class-of-requires g c κs =
+    let below = c .args .self .now .below in
+    leg-below (g .L·Layout .meaning below) (g .L·Layout .sound below) (λ l. l .class) (c .args .leg) (c .in-Continue-own .own) (c .in-Continue-own .ensures tt)
+
+pub returns : need.returns
+returns g c =
+    let s = c .args .self .now .sheet in
+    let leg = c .args .leg in
+    let legs = g .L·Layout .meaning (c .args .self .now .below) .legs in
+    let entered = figure-made (entered-leg s) (λ l. l .class) (λ l. l .class) (λ own. valueOr (mapped (λ by. by .class) (replacing s leg)) own) legs leg (λ l. refl) in
+    let answer = entered (Some (c .in-Continue-own .own)) (c .in-Continue-own .ensures tt) in
+    search needs

@@ -1,0 +1,4 @@
+pub mod Relegged
+pub mod Turn
+pub mod Day
+pub mod Soundness

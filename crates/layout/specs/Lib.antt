@@ -1,0 +1,3 @@
+pub mod Refused
+pub mod Limits
+pub mod Plant

@@ -1,0 +1,3 @@
+// Nothing but tests: plans, loops and piles of layers over them.
+#[cfg(test)]
+mod tests;

@@ -1,0 +1,4 @@
+pub mod Chained
+pub mod Drawn
+pub mod Meant
+pub mod Limited

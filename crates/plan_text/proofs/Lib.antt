@@ -1,0 +1,4 @@
+pub mod Listing
+pub mod Telling
+pub mod Running
+pub mod Stopping

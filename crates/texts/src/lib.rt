@@ -1,0 +1,3 @@
+// Nothing but tests: texts and the answers to them.
+#[cfg(test)]
+mod tests;
