@@ -1,21 +1,18 @@
 -- Lines accepted one after the other. Assumes nothing.
 use mathlib.Core.Path.{_≡_, refl, sym, ap, subst, _∙_}
 use mathlib.Core.List.{List, [], _∷_, _++_, append-assoc}
-use Prim.Native.Nat.{ℕ, zero, suc, _+_, _≤_, _<_}
+use Prim.Native.Nat.{ℕ, zero, suc, _+_, _<_}
 use native.Mathlib.Numerals.{add-one}
 use native.Mathlib.Omega.{arith}
 use lib.ListN.{length}
-use Rattle.std.proofs.shelf.Lists.{length-append}
+use Rattle.tokens.proofs.Cutting.{line-shorter}
 use Rattle.plan_text.specs.Heard.{Heard}
 use Rattle.plan_text.specs.Reads.{Accepts, Lines, Ends-with}
 
 -- an accepted line takes a byte at least, and the text ends with what comes after it
 module _ (h : Heard) (line : ℕ) (text : List ℕ) (after : Heard) (rest : List ℕ) (a : Accepts h line text after rest) where
   pub accepted-shorter : length rest < length text
-  accepted-shorter =
-      let whole = ap length (a .cut .ends .whole) in
-      let parts = length-append (a .bytes) (10 ∷ rest) in
-      omega arith
+  accepted-shorter = line-shorter text (a .bytes) rest (a .cut)
 
   pub accepted-tail : (before : List ℕ) → Ends-with before text → Ends-with before rest
   accepted-tail before (front, e) = (

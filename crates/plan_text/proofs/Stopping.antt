@@ -1,5 +1,5 @@
 -- Where reading stops, and where the rest begins. Assumes nothing.
-use mathlib.Core.Path.{_≡_, refl, sym, ap, subst, _∙_}
+use mathlib.Core.Path.{_≡_, sym, ap, subst, _∙_}
 use mathlib.Core.Bool.{true}
 use mathlib.Core.List.{List, _++_, append-assoc}
 use Prim.Native.Nat.{ℕ, _+_, _-_}
@@ -16,7 +16,7 @@ use Rattle.plan_text.specs.Reads.{Refuses, Halts, Stops, Ends-with}
 -- a part that ended with a refusal: so does the reading
 pub stopped-early : (o : Option Refusal) (Whole : Type 0) (h : Heard) (n m : ℕ) (rest : List ℕ) → n ≡ m → isSome o ≡ true
     → Halts Whole h n rest o → Stops h m rest o
-stopped-early None Whole h n m rest e some stops = let z : _≡_ {A = ℕ} 0 1 = cc in absurd (let w : ⊥ = omega arith in w)
+stopped-early None Whole h n m rest e some stops = absurd (let w : ⊥ = grind arith in w)
 stopped-early (Some r) Whole h n m rest e some stops = subst (λ k. Refuses h k rest r) e stops
 
 -- what a text ends with begins where the other bytes end

@@ -9,13 +9,13 @@ use lib.ListN.{length}
 use Rattle.std.proofs.shelf.Tests.{both-ways, eq-eqb, eqb-true}
 use Rattle.std.specs.declared.option.Option.{Option}
 use Rattle.std.specs.declared.option.Option.the-variants.{Some, None}
-use Rattle.std.specs.declared.result.Result.the-variants.{Ok, Err}
+use Rattle.std.specs.declared.result.Result.the-variants.{Err}
 use Rattle.layout.specs.Refused.{answered}
 use Rattle.layout.specs.declared.refusal.Refusal.{Refusal}
 
 -- a call that answers with a refusal was refused by its checks
 pub refused-by : {X : Type 0} (o : Option Refusal) (x : X) (r : Refusal) → answered o x ≡ Err r → o ≡ Some r
-refused-by None x r e = let z : _≡_ {A = ℕ} 0 1 = cc in absurd (let w : ⊥ = omega arith in w)
+refused-by None x r e = absurd (let w : ⊥ = grind arith in w)
 refused-by (Some s) x r e = cc
 
 -- a text is empty where its length is 0, and only there

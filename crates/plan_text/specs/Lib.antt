@@ -4,3 +4,4 @@ pub mod Told
 pub mod Hears
 pub mod Parts
 pub mod Reads
+pub mod Agreed

@@ -9,7 +9,7 @@ use Rattle.std.specs.Options.{mapped, valueOr, isSome}
 use Rattle.std.specs.declared.option.Option.{Option}
 use Rattle.std.specs.declared.option.Option.the-variants.{Some, None}
 use Rattle.std.specs.declared.result.Result.{Result}
-use Rattle.std.specs.declared.result.Result.the-variants.{Ok, Err}
+use Rattle.std.specs.declared.result.Result.the-variants.{Err}
 use Rattle.layout.specs.Limits.{most-junctions, most-legs}
 use Rattle.layout.specs.Plant.{Plant, leg-of}
 use Rattle.layout.specs.Refused.{refuse-unless, answered, in-line}

@@ -1,4 +1,5 @@
 // Reads a plan from its text, line by line, into a draft.
+pub mod agreeing;
 mod due;
 mod entries;
 mod head;

@@ -1,4 +1,4 @@
-use mathlib.Core.Path.{_≡_, refl, sym, _∙_}
+use mathlib.Core.Path.{refl, sym}
 use mathlib.Core.Logic.{inl, inr}
 use Rattle.plan_text.proofs.Telling.{empty-text, some-text}
 use Rattle.plan_text.proofs.listening.hear_next.Needs as need

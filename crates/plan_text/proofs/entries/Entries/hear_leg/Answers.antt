@@ -11,7 +11,6 @@ use Rattle.layout.specs.Refused.{answered, unless, in-line}
 use Rattle.layout.specs.declared.refusal.Refusal.{Refusal}
 use Rattle.plan.specs.Drawn.{leg-due, with-leg}
 use Rattle.plan.specs.Meant.{sketched}
-use Rattle.plan_text.specs.Heard.{Heard}
 use Rattle.plan_text.specs.Parts.{entries-heard}
 use Rattle.plan_text.specs.Told.{with-plant}
 use Rattle.plan_text.proofs.Telling.{refused-by}
