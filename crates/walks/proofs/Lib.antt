@@ -1,0 +1,27 @@
+-- Lemmas on walks, searches, marks and orders, for this crate and those above.
+pub mod Order
+pub mod Choosing
+pub mod Counting
+pub mod Firsts
+pub mod Nets
+pub mod Walks
+pub mod Turned
+pub mod Frontier
+pub mod Settling
+pub mod Results
+pub mod Once
+pub mod Relaxing
+pub mod InTurn
+pub mod Ends
+pub mod Exists
+pub mod Tabling
+pub mod Nearer
+pub mod Feeding
+pub mod Worsening
+pub mod Flagging
+pub mod Entries
+pub mod Quiet
+pub mod Holding
+pub mod Left
+pub mod Answering
+pub mod Promise
