@@ -207,7 +207,7 @@ fn a_tie_a_self_loop_and_no_way() -> Result<(), Fail> {
         &mut settled,
         &mut way,
     );
-    check(none.is_err())?;
+    check_eq(none.err(), Some(Refusal::NoWay(3)))?;
     check_eq(way, [1, 3, 8, 8])?;
     check_eq(came, [NONE, 1, 3, NONE])?;
     let all = explore(&plan, 1, &mut totals, &mut came, &mut waiting, &mut settled)?;
