@@ -1,4 +1,6 @@
 // Searches over full plants, to be timed: each line of the input is a job, as `grid t 8`, and each is answered by what its searches come to.
+#![tactic(auto)]
+
 mod dice;
 mod job;
 mod plant;

@@ -1,4 +1,6 @@
 // What the divert board writes in answer to a text.
+#![tactic(auto)]
+
 use layout::asking::Layout;
 use layout::refusal::Refusal;
 use plan::draft::Plan;

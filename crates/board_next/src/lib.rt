@@ -1,4 +1,6 @@
 // What the divert board answers to a text.
+#![tactic(auto)]
+
 pub mod agreeing;
 pub mod answering;
 mod carrying;

@@ -1,4 +1,6 @@
 // Measures: what a way through the plant is measured by, and the three kinds that are delivered.
+#![tactic(auto)]
+
 pub mod figures;
 pub mod kinds;
 pub mod measure;

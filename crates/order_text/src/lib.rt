@@ -1,4 +1,6 @@
 // Reads an order from its line.
+#![tactic(auto)]
+
 pub mod agreeing;
 mod key;
 pub mod order;

@@ -1,4 +1,6 @@
 // Reads a plan from its text, line by line, into a draft.
+#![tactic(auto)]
+
 pub mod agreeing;
 mod due;
 mod entries;

@@ -1,4 +1,6 @@
 // Renewing a hall's marks.
+#![tactic(auto)]
+
 mod asking;
 mod best;
 mod marking;

@@ -1,4 +1,6 @@
 // Reads a text from standard input and writes what the board answers.
+#![tactic(auto)]
+
 use board::answer;
 use plan_text::reading::MOST_BYTES;
 use std::io;

@@ -1,4 +1,6 @@
 // The search for best ways over any layout.
+#![tactic(auto)]
+
 pub mod found;
 mod places;
 mod queue;

@@ -1,4 +1,6 @@
 // What the tables and the queue of a search hold, and what becomes of them: theory, the check of their lengths, and the slot that a queue is made of.
+#![tactic(auto)]
+
 pub mod checking;
 pub mod slot;
 

@@ -1,3 +1,5 @@
 // Nothing but tests: texts and the answers to them.
+#![tactic(auto)]
+
 #[cfg(test)]
 mod tests;

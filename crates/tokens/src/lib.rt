@@ -1,5 +1,7 @@
 // Takes a text apart: into lines, a line into its key and its values, and a value into the number or the letter that it writes.
 // It knows nothing of what the lines mean.
+#![tactic(auto)]
+
 mod cut;
 mod line;
 mod numeral;
