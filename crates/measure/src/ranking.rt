@@ -7,7 +7,7 @@ use std::cmp::Ordering;
 
 // How a total stands to another: below it, the same total, or above it.
 pub fn compare<M: Measure>(total: M, other: M) -> Ordering
-    ensures { MatchOrdering result (scale.below total other ≡ true) (total ≡ other) (scale.below other total ≡ true) }
+    ensures { MatchOrdering result (M.scale.below total other ≡ true) (total ≡ other) (M.scale.below other total ≡ true) }
 {
     if total.is_below(other) {
         Ordering::Less

@@ -15,8 +15,8 @@ pub(crate) struct Ends {
 
 // Whether a junction lies in a hall.
 pub(crate) fn lies_in<L: Layout>(layout: &L, junction: u32, hall: u32) -> bool
-    requires { hall < (meaning layout.now).halls }
-    ensures { result ≡ (hall_at (meaning layout.now) junction == hall) }
+    requires { hall < (L.meaning layout.now).halls }
+    ensures { result ≡ (hall_at (L.meaning layout.now) junction == hall) }
 {
     match layout.hall_of(junction) {
         Some(found) => found == hall,
@@ -26,7 +26,7 @@ pub(crate) fn lies_in<L: Layout>(layout: &L, junction: u32, hall: u32) -> bool
 
 // The ends of a leg that is open.
 pub(crate) fn open_ends<L: Layout>(layout: &L, leg: u32) -> Option<Ends>
-    ensures { MatchOption result ((leg_at (meaning layout.now) leg).is_open ≡ false) (λ ends. ((leg_at (meaning layout.now) leg).is_open ≡ true) × (ends.tail ≡ (leg_at (meaning layout.now) leg).tail) × (ends.head ≡ (leg_at (meaning layout.now) leg).head)) }
+    ensures { MatchOption result ((leg_at (L.meaning layout.now) leg).is_open ≡ false) (λ ends. ((leg_at (L.meaning layout.now) leg).is_open ≡ true) × (ends.tail ≡ (leg_at (L.meaning layout.now) leg).tail) × (ends.head ≡ (leg_at (L.meaning layout.now) leg).head)) }
 {
     match (layout.is_open(leg), layout.tail(leg), layout.head(leg)) {
         (Some(true), Some(tail), Some(head)) => Some(Ends { tail, head }),
@@ -36,8 +36,8 @@ pub(crate) fn open_ends<L: Layout>(layout: &L, leg: u32) -> Option<Ends>
 
 // Whether a leg is open and lies inside a hall with both ends.
 pub(crate) fn lies_inside<L: Layout, M: Measure>(layout: &L, leg: u32, hall: u32) -> bool
-    requires { hall < (meaning layout.now).halls }
-    ensures { Decides result (((net scale (meaning layout.now)).usable leg ≡ true) × BothEnds (net scale (meaning layout.now)) (hall_at (meaning layout.now)) hall leg) }
+    requires { hall < (L.meaning layout.now).halls }
+    ensures { Decides result (((net M.scale (L.meaning layout.now)).usable leg ≡ true) × BothEnds (net M.scale (L.meaning layout.now)) (hall_at (L.meaning layout.now)) hall leg) }
 {
     match open_ends(layout, leg) {
         Some(ends) => lies_in(layout, ends.tail, hall) && lies_in(layout, ends.head, hall),
@@ -47,8 +47,8 @@ pub(crate) fn lies_inside<L: Layout, M: Measure>(layout: &L, leg: u32, hall: u32
 
 // Whether a leg is open and comes from outside a hall.
 fn comes_from_outside<L: Layout>(layout: &L, leg: u32, hall: u32) -> bool
-    requires { hall < (meaning layout.now).halls }
-    ensures { Decides result (((leg_at (meaning layout.now) leg).is_open ≡ true) × ((hall_at (meaning layout.now) (leg_at (meaning layout.now) leg).tail == hall) ≡ false)) }
+    requires { hall < (L.meaning layout.now).halls }
+    ensures { Decides result (((leg_at (L.meaning layout.now) leg).is_open ≡ true) × ((hall_at (L.meaning layout.now) (leg_at (L.meaning layout.now) leg).tail == hall) ≡ false)) }
 {
     match open_ends(layout, leg) {
         Some(ends) => !lies_in(layout, ends.tail, hall),
@@ -58,8 +58,8 @@ fn comes_from_outside<L: Layout>(layout: &L, leg: u32, hall: u32) -> bool
 
 // Whether a junction is an entry of a hall.
 pub(crate) fn is_entry<L: Layout, M: Measure>(layout: &L, junction: u32, hall: u32) -> bool
-    requires { hall < (meaning layout.now).halls }
-    ensures { Decides result (Entry (net scale (meaning layout.now)) (hall_at (meaning layout.now)) hall junction) }
+    requires { hall < (L.meaning layout.now).halls }
+    ensures { Decides result (Entry (net M.scale (L.meaning layout.now)) (hall_at (L.meaning layout.now)) hall junction) }
 {
     if !lies_in(layout, junction, hall) {
         return false;

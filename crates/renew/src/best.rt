@@ -17,7 +17,7 @@ const NO_LEG: u16 = 65535;
 fn total_of<M: Measure>(junction: u32, entry: u32, totals: &[M], came: &[u16]) -> Option<M>
     requires totals { junction < length totals.now }
     requires came { junction < length came.now }
-    ensures { result ≡ (tabled scale entry totals.now came.now []).total junction }
+    ensures { result ≡ (tabled M.scale entry totals.now came.now []).total junction }
 {
     let place = junction as usize;
     if junction != entry && came[place] == NO_LEG {
@@ -44,8 +44,8 @@ pub(crate) fn leads_best<L: Layout, M: Measure>(
     totals: &[M],
     came: &[u16],
 ) -> bool
-    requires { Distances scale (meaning layout.now) entry totals.now came.now }
-    ensures { Decides result (LeadsBest scale (meaning layout.now) entry leg) }
+    requires { Distances M.scale (L.meaning layout.now) entry totals.now came.now }
+    ensures { Decides result (LeadsBest M.scale (L.meaning layout.now) entry leg) }
 {
     let Some(ends) = open_ends(layout, leg) else {
         return false;

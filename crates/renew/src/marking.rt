@@ -13,8 +13,8 @@ use measure::Measure;
 
 // Marks for the hall exactly the open legs inside it.
 pub(crate) fn mark_inside<L: Layout, M: Measure>(layout: &L, marks: &mut Marks, hall: u32)
-    requires { hall < (meaning layout.now).halls }
-    ensures { Written hall (length (meaning layout.now).legs) (FlaggedTo scale (meaning layout.now) hall 0) marks.old marks.new }
+    requires { hall < (L.meaning layout.now).halls }
+    ensures { Written hall (length (L.meaning layout.now).legs) (FlaggedTo M.scale (L.meaning layout.now) hall 0) marks.old marks.new }
 {
     for leg in 0..layout.legs() {
         marks.put(hall, leg, lies_inside::<L, M>(layout, leg, hall));
@@ -30,9 +30,9 @@ pub(crate) fn mark_best<L: Layout, M: Measure>(
     totals: &[M],
     came: &[u16],
 )
-    requires hall { hall < (meaning layout.now).halls }
-    requires distances { Distances scale (meaning layout.now) entry totals.now came.now }
-    ensures { Written hall (length (meaning layout.now).legs) (λ e. (is_marked marks.old hall e ≡ true) ⊎ LeadsBest scale (meaning layout.now) entry e) marks.old marks.new }
+    requires hall { hall < (L.meaning layout.now).halls }
+    requires distances { Distances M.scale (L.meaning layout.now) entry totals.now came.now }
+    ensures { Written hall (length (L.meaning layout.now).legs) (λ e. (is_marked marks.old hall e ≡ true) ⊎ LeadsBest M.scale (L.meaning layout.now) entry e) marks.old marks.new }
 {
     for leg in 0..layout.legs() {
         if leads_best(layout, leg, entry, totals, came) {

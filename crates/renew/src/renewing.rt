@@ -28,14 +28,14 @@ fn mark_for_entry<L: Layout, M: Measure>(
     waiting: &mut [Slot<M>],
     settled: &mut [u16],
 )
-    requires hall { hall < (meaning layout.now).halls }
-    requires entry { entry < junctions (meaning layout.now) }
-    requires totals { junctions (meaning layout.now) ≤ length totals.old }
-    requires came { junctions (meaning layout.now) ≤ length came.old }
-    requires waiting { junctions (meaning layout.now) ≤ length waiting.old }
-    requires settled { junctions (meaning layout.now) ≤ length settled.old }
-    ensures marks { Written hall (length (meaning layout.now).legs) (λ e. (is_marked marks.old hall e ≡ true) ⊎ LeadsBest scale (meaning layout.now) entry e) marks.old marks.new }
-    ensures past { Past (junctions (meaning layout.now)) (record { totals = totals.entry.now; came = came.old; waiting = waiting.old; settled = settled.old }) (record { totals = totals.exit.now; came = came.new; waiting = waiting.new; settled = settled.new }) }
+    requires hall { hall < (L.meaning layout.now).halls }
+    requires entry { entry < junctions (L.meaning layout.now) }
+    requires totals { junctions (L.meaning layout.now) ≤ length totals.old }
+    requires came { junctions (L.meaning layout.now) ≤ length came.old }
+    requires waiting { junctions (L.meaning layout.now) ≤ length waiting.old }
+    requires settled { junctions (L.meaning layout.now) ≤ length settled.old }
+    ensures marks { Written hall (length (L.meaning layout.now).legs) (λ e. (is_marked marks.old hall e ≡ true) ⊎ LeadsBest M.scale (L.meaning layout.now) entry e) marks.old marks.new }
+    ensures past { Past (junctions (L.meaning layout.now)) (record { totals = totals.old; came = came.old; waiting = waiting.old; settled = settled.old }) (record { totals = totals.new; came = came.new; waiting = waiting.new; settled = settled.new }) }
 {
     let turned = Turned::over(layout);
     match explore(&turned, entry, totals, came, waiting, settled) {
@@ -54,13 +54,13 @@ fn mark_for_entries<L: Layout, M: Measure>(
     waiting: &mut [Slot<M>],
     settled: &mut [u16],
 )
-    requires hall { hall < (meaning layout.now).halls }
-    requires totals { junctions (meaning layout.now) ≤ length totals.old }
-    requires came { junctions (meaning layout.now) ≤ length came.old }
-    requires waiting { junctions (meaning layout.now) ≤ length waiting.old }
-    requires settled { junctions (meaning layout.now) ≤ length settled.old }
-    ensures marks { (old : MarkSet) → Written hall (length (meaning layout.now).legs) (FlaggedTo scale (meaning layout.now) hall 0) old marks.old → Written hall (length (meaning layout.now).legs) (FlaggedTo scale (meaning layout.now) hall (junctions (meaning layout.now))) old marks.new }
-    ensures past { Past (junctions (meaning layout.now)) (record { totals = totals.entry.now; came = came.old; waiting = waiting.old; settled = settled.old }) (record { totals = totals.exit.now; came = came.new; waiting = waiting.new; settled = settled.new }) }
+    requires hall { hall < (L.meaning layout.now).halls }
+    requires totals { junctions (L.meaning layout.now) ≤ length totals.old }
+    requires came { junctions (L.meaning layout.now) ≤ length came.old }
+    requires waiting { junctions (L.meaning layout.now) ≤ length waiting.old }
+    requires settled { junctions (L.meaning layout.now) ≤ length settled.old }
+    ensures marks { (old : MarkSet) → Written hall (length (L.meaning layout.now).legs) (FlaggedTo M.scale (L.meaning layout.now) hall 0) old marks.old → Written hall (length (L.meaning layout.now).legs) (FlaggedTo M.scale (L.meaning layout.now) hall (junctions (L.meaning layout.now))) old marks.new }
+    ensures past { Past (junctions (L.meaning layout.now)) (record { totals = totals.old; came = came.old; waiting = waiting.old; settled = settled.old }) (record { totals = totals.new; came = came.new; waiting = waiting.new; settled = settled.new }) }
 {
     for junction in 0..layout.junctions() {
         if is_entry::<L, M>(layout, junction, hall) {
@@ -82,7 +82,7 @@ pub fn renew<L: Layout, M: Measure>(
     waiting: &mut [Slot<M>],
     settled: &mut [u16],
 ) -> Result<u32, Refusal>
-    ensures { Renewed scale (meaning layout.now) hall marks.old marks.new (record { totals = totals.entry.now; came = came.old; waiting = waiting.old; settled = settled.old }) (record { totals = totals.exit.now; came = came.new; waiting = waiting.new; settled = settled.new }) result }
+    ensures { Renewed M.scale (L.meaning layout.now) hall marks.old marks.new (record { totals = totals.old; came = came.old; waiting = waiting.old; settled = settled.old }) (record { totals = totals.new; came = came.new; waiting = waiting.new; settled = settled.new }) result }
 {
     if hall >= layout.halls() {
         return Err(Refusal::NoHall(hall));

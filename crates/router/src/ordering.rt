@@ -34,7 +34,7 @@ impl<L: Layout, M: Measure> Router<L, M> {
         ensures sheet { result.sheet.sheet ≡ blank }
         ensures force { (h : ℕ) → in_force result.halls.force h ≡ false }
         ensures marks { (h e : ℕ) → is_marked result.halls.marks h e ≡ possible h e }
-        ensures book { Worked scale (L.Layout.meaning layout) [] result.sheet.sheet result.halls }
+        ensures book { Worked M.scale (L.Layout.meaning layout) [] result.sheet.sheet result.halls }
     {
         Router {
             sheet: DaySheet::over(layout),
@@ -68,7 +68,7 @@ impl<L: Layout, M: Measure> Router<L, M> {
     // Shuts a leg: every hall in force for which it is marked lapses. The answer is how many.
     pub fn shut(&mut self, leg: u32) -> Result<u32, Refusal>
         ensures below { self.new.sheet.below ≡ self.old.sheet.below }
-        ensures order { Carries scale (L.Layout.meaning self.old.sheet.below) (shut leg) (refuses_sign (L.Layout.meaning self.old.sheet.below) self.old.sheet.sheet leg true) (strike.Marking leg) (signed self.old.sheet.sheet leg true) self.old.sheet.sheet self.new.sheet.sheet self.old.halls self.new.halls result }
+        ensures order { Carries M.scale (L.Layout.meaning self.old.sheet.below) (shut leg) (refuses_sign (L.Layout.meaning self.old.sheet.below) self.old.sheet.sheet leg true) (strike.Marking leg) (signed self.old.sheet.sheet leg true) self.old.sheet.sheet self.new.sheet.sheet self.old.halls self.new.halls result }
     {
         match self.sheet.shut(leg) {
             Ok(()) => Ok(self.lapse(Strikes::Marking(leg))),
@@ -79,7 +79,7 @@ impl<L: Layout, M: Measure> Router<L, M> {
     // Opens a leg that was shut: every hall in force lapses. The answer is how many.
     pub fn open(&mut self, leg: u32) -> Result<u32, Refusal>
         ensures below { self.new.sheet.below ≡ self.old.sheet.below }
-        ensures order { Carries scale (L.Layout.meaning self.old.sheet.below) (reopen leg) (refuses_sign (L.Layout.meaning self.old.sheet.below) self.old.sheet.sheet leg false) strike.Every (signed self.old.sheet.sheet leg false) self.old.sheet.sheet self.new.sheet.sheet self.old.halls self.new.halls result }
+        ensures order { Carries M.scale (L.Layout.meaning self.old.sheet.below) (reopen leg) (refuses_sign (L.Layout.meaning self.old.sheet.below) self.old.sheet.sheet leg false) strike.Every (signed self.old.sheet.sheet leg false) self.old.sheet.sheet self.new.sheet.sheet self.old.halls self.new.halls result }
     {
         match self.sheet.open(leg) {
             Ok(()) => Ok(self.lapse(Strikes::Every)),
@@ -91,7 +91,7 @@ impl<L: Layout, M: Measure> Router<L, M> {
     // The answer is how many.
     pub fn set(&mut self, leg: u32, class: u32, clearance: u32) -> Result<u32, Refusal>
         ensures below { self.new.sheet.below ≡ self.old.sheet.below }
-        ensures order { Carries scale (L.Layout.meaning self.old.sheet.below) (set_order leg class clearance) (refuses_set (L.Layout.meaning self.old.sheet.below) leg class clearance) (set_strikes scale (L.Layout.meaning self.old.sheet.below) self.old.sheet.sheet leg class clearance) (figured self.old.sheet.sheet leg class clearance) self.old.sheet.sheet self.new.sheet.sheet self.old.halls self.new.halls result }
+        ensures order { Carries M.scale (L.Layout.meaning self.old.sheet.below) (set_order leg class clearance) (refuses_set (L.Layout.meaning self.old.sheet.below) leg class clearance) (set_strikes M.scale (L.Layout.meaning self.old.sheet.below) self.old.sheet.sheet leg class clearance) (figured self.old.sheet.sheet leg class clearance) self.old.sheet.sheet self.new.sheet.sheet self.old.halls self.new.halls result }
     {
         let old = weigh_open::<DaySheet<L>, M>(&self.sheet, leg);
         match self.sheet.set(leg, class, clearance) {
@@ -114,7 +114,7 @@ impl<L: Layout, M: Measure> Router<L, M> {
         settled: &mut [u16],
     ) -> Result<u32, Refusal>
         ensures sheet { self.new.sheet ≡ self.old.sheet }
-        ensures renewed { RenewsHall scale (L.Layout.meaning self.old.sheet.below) hall self.old.sheet.sheet self.old.halls self.new.halls (record { totals = totals.entry.now; came = came.old; waiting = waiting.old; settled = settled.old }) (record { totals = totals.exit.now; came = came.new; waiting = waiting.new; settled = settled.new }) result }
+        ensures renewed { RenewsHall M.scale (L.Layout.meaning self.old.sheet.below) hall self.old.sheet.sheet self.old.halls self.new.halls (record { totals = totals.old; came = came.old; waiting = waiting.old; settled = settled.old }) (record { totals = totals.new; came = came.new; waiting = waiting.new; settled = settled.new }) result }
     {
         match renew_marks(
             &self.sheet,
@@ -154,9 +154,9 @@ impl<L: Layout, M: Measure> Router<L, M> {
         settled: &mut [u16],
         way: &mut [u16],
     ) -> Result<Found<M>, Refusal>
-        ensures answer { Answered scale (seen (L.Layout.meaning self.now.sheet.below) self.now.sheet.sheet self.now.halls goal) start goal (record { totals = totals.entry.now; came = came.old; waiting = waiting.old; settled = settled.old }) way.old (record { totals = totals.exit.now; came = came.new; waiting = waiting.new; settled = settled.new }) way.new result }
-        ensures book { Goes_on scale (L.Layout.meaning self.now.sheet.below) (routing start goal (record { totals = totals.entry.now; came = came.old; waiting = waiting.old; settled = settled.old }) way.old) (route_answer result way.new) self.now.sheet.sheet self.now.halls self.now.sheet.sheet self.now.halls }
-        ensures promise { KeepsPromise scale (L.Layout.meaning self.now.sheet.below) self.now.sheet.sheet self.now.halls start goal (record { totals = totals.entry.now; came = came.old; waiting = waiting.old; settled = settled.old }) way.old (record { totals = totals.exit.now; came = came.new; waiting = waiting.new; settled = settled.new }) way.new result }
+        ensures answer { Answered M.scale (seen (L.Layout.meaning self.now.sheet.below) self.now.sheet.sheet self.now.halls goal) start goal (record { totals = totals.old; came = came.old; waiting = waiting.old; settled = settled.old }) way.old (record { totals = totals.new; came = came.new; waiting = waiting.new; settled = settled.new }) way.new result }
+        ensures book { Goes_on M.scale (L.Layout.meaning self.now.sheet.below) (routing start goal (record { totals = totals.old; came = came.old; waiting = waiting.old; settled = settled.old }) way.old) (route_answer result way.new) self.now.sheet.sheet self.now.halls self.now.sheet.sheet self.now.halls }
+        ensures promise { KeepsPromise M.scale (L.Layout.meaning self.now.sheet.below) self.now.sheet.sheet self.now.halls start goal (record { totals = totals.old; came = came.old; waiting = waiting.old; settled = settled.old }) way.old (record { totals = totals.new; came = came.new; waiting = waiting.new; settled = settled.new }) way.new result }
     {
         let hall = self.hall_towards(goal);
         let marked = Marked::over(&self.sheet, &self.halls.marks, hall);

@@ -12,7 +12,7 @@ use walks::weigh;
 
 // The weight of a leg that is open.
 pub(crate) fn weigh_open<L: Layout, M: Measure>(layout: &L, leg: u32) -> Option<M>
-    ensures { result ≡ open_weight scale (meaning layout.now) leg }
+    ensures { result ≡ open_weight M.scale (L.meaning layout.now) leg }
 {
     match layout.is_open(leg) {
         Some(true) => weigh::<L, M>(layout, leg),
@@ -22,7 +22,7 @@ pub(crate) fn weigh_open<L: Layout, M: Measure>(layout: &L, leg: u32) -> Option<
 
 // Whom it strikes that an open leg of weight `old`, if there is one, now has weight `new`.
 pub(crate) fn struck_by<M: Measure>(leg: u32, old: Option<M>, new: Option<M>) -> Strikes
-    ensures { result ≡ changed scale leg old new }
+    ensures { result ≡ changed M.scale leg old new }
 {
     let (Some(old), Some(new)) = (old, new) else {
         return Strikes::None;

@@ -32,13 +32,13 @@ pub(crate) fn run<L: Layout, M: Measure>(
     waiting: &mut [Slot<M>],
     settled: &mut [u16],
 ) -> usize
-    requires start { start < junctions (meaning layout.now) }
-    requires totals { length totals.old ≡ junctions (meaning layout.now) }
-    requires came { length came.old ≡ junctions (meaning layout.now) }
-    requires waiting { length waiting.old ≡ junctions (meaning layout.now) }
-    requires settled { length settled.old ≡ junctions (meaning layout.now) }
-    ensures searched { Searched scale (net scale (meaning layout.now)) start goal (tabled scale start totals.new came.new (take result settled.new)) }
-    ensures tables { TablesOf scale (junctions (meaning layout.now)) start totals.new came.new }
+    requires start { start < junctions (L.meaning layout.now) }
+    requires totals { length totals.old ≡ junctions (L.meaning layout.now) }
+    requires came { length came.old ≡ junctions (L.meaning layout.now) }
+    requires waiting { length waiting.old ≡ junctions (L.meaning layout.now) }
+    requires settled { length settled.old ≡ junctions (L.meaning layout.now) }
+    ensures searched { Searched M.scale (net M.scale (L.meaning layout.now)) start goal (tabled M.scale start totals.new came.new (take result settled.new)) }
+    ensures tables { TablesOf M.scale (junctions (L.meaning layout.now)) start totals.new came.new }
     ensures within { result ≤ length settled.old }
     ensures past { drop result settled.new ≡ drop result settled.old }
 {

@@ -42,12 +42,12 @@ pub(crate) fn settle_one<L: Layout, M: Measure>(
     settled: &mut [u16],
     count: usize,
 ) -> Step
-    requires running { Running scale (net scale (meaning layout.now)) start goal (length came.old) totals.old came.old (take count settled.old) (waiting queue.old) }
-    requires all { length came.old ≡ junctions (meaning layout.now) }
+    requires running { Running M.scale (net M.scale (L.meaning layout.now)) start goal (length came.old) totals.old came.old (take count settled.old) (waiting queue.old) }
+    requires all { length came.old ≡ junctions (L.meaning layout.now) }
     requires slots { length queue.old.slots.now ≡ length came.old }
     requires places { length settled.old ≡ length came.old }
     requires within { count ≤ length settled.old }
-    ensures stepped { Stepped scale (net scale (meaning layout.now)) start goal (length came.old) count totals.new came.new settled.new (waiting queue.new) result }
+    ensures stepped { Stepped M.scale (net M.scale (L.meaning layout.now)) start goal (length came.old) count totals.new came.new settled.new (waiting queue.new) result }
     ensures slots { length queue.new.slots.now ≡ length queue.old.slots.now }
     ensures lent { queue.new.slots.ghost_name ≡ queue.old.slots.ghost_name }
     ensures past { drop (settled_after count result) settled.new ≡ drop (settled_after count result) settled.old }

@@ -8,7 +8,7 @@ use tables::Slot;
 
 // Whether one slot comes out before another: by the lower total, and at the same total by the lower number.
 pub(crate) fn is_before<M: Measure>(one: Slot<M>, other: Slot<M>) -> bool
-    ensures { result ≡ before scale one other }
+    ensures { result ≡ before M.scale one other }
 {
     if other.total.is_below(one.total) {
         return false;
@@ -22,7 +22,7 @@ pub(crate) fn is_before<M: Measure>(one: Slot<M>, other: Slot<M>) -> bool
 // The place of the slot, among the first `used`, that comes out first.
 pub(crate) fn lowest_place<M: Measure>(slots: &[Slot<M>], used: usize) -> usize
     requires { (0 < used) × (used ≤ length slots.now) }
-    ensures { IsFirstBest (before scale) slots.now used result }
+    ensures { IsFirstBest (before M.scale) slots.now used result }
 {
     let mut best: usize = 0;
     let mut lowest = slots[0];

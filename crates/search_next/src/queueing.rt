@@ -31,7 +31,7 @@ impl<'a, M: Measure> Queue<'a, M> {
     // The place of the slot that comes out first.
     fn lowest(&self) -> usize
         requires { 0 < self.now.used }
-        ensures { IsFirstBest (before scale) self.now.slots.now self.now.used result }
+        ensures { IsFirstBest (before M.scale) self.now.slots.now self.now.used result }
     {
         lowest_place(self.slots, self.used)
     }
@@ -52,7 +52,7 @@ impl<'a, M: Measure> Queue<'a, M> {
 
     // Lowers the total of a number that waits. Says whether it did: not where the number does not wait, or waits with a total that is not above the new one.
     pub(crate) fn lower(&mut self, number: u16, total: M) -> bool
-        ensures lowered { result ≡ lowers scale total (waiting self.old number) }
+        ensures lowered { result ≡ lowers M.scale total (waiting self.old number) }
         ensures waiting { (q : ℕ) → waiting self.new q ≡ (if result && q == number then Some total else waiting self.old q) }
         ensures used { self.new.used ≡ self.old.used }
         ensures rest { Untouched self.old self.new }
@@ -71,7 +71,7 @@ impl<'a, M: Measure> Queue<'a, M> {
 
     // Takes out the number with the lowest total, and of several with that total the lowest number. None where no number waits.
     pub(crate) fn take_lowest(&mut self) -> Option<Slot<M>>
-        ensures taken { Taken scale self.old self.new result }
+        ensures taken { Taken M.scale self.old self.new result }
         ensures rest { Untouched self.old self.new }
         ensures lent { self.new.slots.ghost_name ≡ self.old.slots.ghost_name }
     {

@@ -22,7 +22,7 @@ struct Offer<M> {
 
 // What a leg offers, where it is open.
 fn offer_of<L: Layout, M: Measure>(layout: &L, leg: u32) -> Option<Offer<M>>
-    ensures { MatchOption result ((net scale (meaning layout.now)).usable leg ≡ false) (λ o. ((net scale (meaning layout.now)).usable leg ≡ true) × (o.head ≡ (net scale (meaning layout.now)).head leg) × (o.weight ≡ (net scale (meaning layout.now)).weight leg)) }
+    ensures { MatchOption result ((net M.scale (L.meaning layout.now)).usable leg ≡ false) (λ o. ((net M.scale (L.meaning layout.now)).usable leg ≡ true) × (o.head ≡ (net M.scale (L.meaning layout.now)).head leg) × (o.weight ≡ (net M.scale (L.meaning layout.now)).weight leg)) }
 {
     match (
         layout.is_open(leg),
@@ -44,13 +44,13 @@ fn reach<M: Measure>(
     came: &mut [u16],
     queue: &mut Queue<M>,
 )
-    requires tables { TablesOf scale (length came.old) start totals.old came.old }
-    requires waiters { Totalled (tabled scale start totals.old came.old []) (waiting queue.old) }
+    requires tables { TablesOf M.scale (length came.old) start totals.old came.old }
+    requires waiters { Totalled (tabled M.scale start totals.old came.old []) (waiting queue.old) }
     requires slots { length queue.old.slots.now ≡ length came.old }
     requires few { length came.old ≤ 256 }
     requires there { head < length came.old }
     requires small { leg < 512 }
-    ensures offered { Offered scale start head leg total totals.old came.old (waiting queue.old) totals.new came.new (waiting queue.new) }
+    ensures offered { Offered M.scale start head leg total totals.old came.old (waiting queue.old) totals.new came.new (waiting queue.new) }
     ensures slots { length queue.new.slots.now ≡ length queue.old.slots.now }
     ensures lent { queue.new.slots.ghost_name ≡ queue.old.slots.ghost_name }
 {
@@ -78,12 +78,12 @@ fn take_leg<L: Layout, M: Measure>(
     came: &mut [u16],
     queue: &mut Queue<M>,
 )
-    requires tables { TablesOf scale (junctions (meaning layout.now)) start totals.old came.old }
-    requires standing { Standing scale at start totals.old came.old (waiting queue.old) }
-    requires slots { length queue.old.slots.now ≡ junctions (meaning layout.now) }
-    requires leaves { slice_get (tails (meaning layout.now)) leg ≡ Some junction }
-    ensures tables { TablesOf scale (junctions (meaning layout.now)) start totals.new came.new }
-    ensures took { (st : List ℕ) → Stands scale at (tabled scale start totals.old came.old st) (waiting queue.old) → Took scale (net scale (meaning layout.now)) st junction at leg (tabled scale start totals.old came.old st) (tabled scale start totals.new came.new st) (waiting queue.new) }
+    requires tables { TablesOf M.scale (junctions (L.meaning layout.now)) start totals.old came.old }
+    requires standing { Standing M.scale at start totals.old came.old (waiting queue.old) }
+    requires slots { length queue.old.slots.now ≡ junctions (L.meaning layout.now) }
+    requires leaves { slice_get (tails (L.meaning layout.now)) leg ≡ Some junction }
+    ensures tables { TablesOf M.scale (junctions (L.meaning layout.now)) start totals.new came.new }
+    ensures took { (st : List ℕ) → Stands M.scale at (tabled M.scale start totals.old came.old st) (waiting queue.old) → Took M.scale (net M.scale (L.meaning layout.now)) st junction at leg (tabled M.scale start totals.old came.old st) (tabled M.scale start totals.new came.new st) (waiting queue.new) }
     ensures slots { length queue.new.slots.now ≡ length queue.old.slots.now }
     ensures lent { queue.new.slots.ghost_name ≡ queue.old.slots.ghost_name }
 {
@@ -104,11 +104,11 @@ pub(crate) fn relax<L: Layout, M: Measure>(
     came: &mut [u16],
     queue: &mut Queue<M>,
 )
-    requires tables { TablesOf scale (junctions (meaning layout.now)) start totals.old came.old }
-    requires standing { Standing scale at start totals.old came.old (waiting queue.old) }
-    requires slots { length queue.old.slots.now ≡ junctions (meaning layout.now) }
-    ensures tables { TablesOf scale (junctions (meaning layout.now)) start totals.new came.new }
-    ensures relaxed { (st : List ℕ) → Stands scale at (tabled scale start totals.old came.old st) (waiting queue.old) → Relaxed scale (meaning layout.now) st junction at (tabled scale start totals.old came.old st) (tabled scale start totals.new came.new st) (waiting queue.new) (length (meaning layout.now).legs) }
+    requires tables { TablesOf M.scale (junctions (L.meaning layout.now)) start totals.old came.old }
+    requires standing { Standing M.scale at start totals.old came.old (waiting queue.old) }
+    requires slots { length queue.old.slots.now ≡ junctions (L.meaning layout.now) }
+    ensures tables { TablesOf M.scale (junctions (L.meaning layout.now)) start totals.new came.new }
+    ensures relaxed { (st : List ℕ) → Stands M.scale at (tabled M.scale start totals.old came.old st) (waiting queue.old) → Relaxed M.scale (L.meaning layout.now) st junction at (tabled M.scale start totals.old came.old st) (tabled M.scale start totals.new came.new st) (waiting queue.new) (length (L.meaning layout.now).legs) }
     ensures slots { length queue.new.slots.now ≡ length queue.old.slots.now }
     ensures lent { queue.new.slots.ghost_name ≡ queue.old.slots.ghost_name }
 {

@@ -41,12 +41,12 @@ fn run_in_fronts<L: Layout, M: Measure>(
     waiting: &mut [Slot<M>],
     settled: &mut [u16],
 ) -> usize
-    requires start { start < junctions (meaning layout.now) }
-    requires totals { junctions (meaning layout.now) ≤ length totals.old }
-    requires came { junctions (meaning layout.now) ≤ length came.old }
-    requires waiting { junctions (meaning layout.now) ≤ length waiting.old }
-    requires settled { junctions (meaning layout.now) ≤ length settled.old }
-    ensures { Left scale (meaning layout.now) start goal (record { totals = totals.entry.now; came = came.old; waiting = waiting.old; settled = settled.old }) (record { totals = totals.exit.now; came = came.new; waiting = waiting.new; settled = settled.new }) result }
+    requires start { start < junctions (L.meaning layout.now) }
+    requires totals { junctions (L.meaning layout.now) ≤ length totals.old }
+    requires came { junctions (L.meaning layout.now) ≤ length came.old }
+    requires waiting { junctions (L.meaning layout.now) ≤ length waiting.old }
+    requires settled { junctions (L.meaning layout.now) ≤ length settled.old }
+    ensures { Left M.scale (L.meaning layout.now) start goal (record { totals = totals.old; came = came.old; waiting = waiting.old; settled = settled.old }) (record { totals = totals.new; came = came.new; waiting = waiting.new; settled = settled.new }) result }
 {
     let n = layout.junctions() as usize;
     run(
@@ -69,7 +69,7 @@ pub fn explore<L: Layout, M: Measure>(
     waiting: &mut [Slot<M>],
     settled: &mut [u16],
 ) -> Result<u32, Refusal>
-    ensures { Explored scale (meaning layout.now) start (record { totals = totals.entry.now; came = came.old; waiting = waiting.old; settled = settled.old }) (record { totals = totals.exit.now; came = came.new; waiting = waiting.new; settled = settled.new }) result }
+    ensures { Explored M.scale (L.meaning layout.now) start (record { totals = totals.old; came = came.old; waiting = waiting.old; settled = settled.old }) (record { totals = totals.new; came = came.new; waiting = waiting.new; settled = settled.new }) result }
 {
     let sizes = [totals.len(), came.len(), waiting.len(), settled.len()];
     if let Some(refusal) = check_call(layout.junctions(), start, None, &sizes) {
@@ -90,15 +90,15 @@ fn tell<L: Layout, M: Measure>(
     settled: &[u16],
     way: &mut [u16],
 ) -> Result<Found<M>, Refusal>
-    requires searched { Searched scale (net scale (meaning layout.now)) start (Some goal) (tabled scale start (take (junctions (meaning layout.now)) totals.now) (take (junctions (meaning layout.now)) came.now) (take count settled.now)) }
-    requires start { start < junctions (meaning layout.now) }
-    requires goal { goal < junctions (meaning layout.now) }
-    requires totals { junctions (meaning layout.now) ≤ length totals.now }
-    requires came { junctions (meaning layout.now) ≤ length came.now }
-    requires settled { junctions (meaning layout.now) ≤ length settled.now }
-    requires way { junctions (meaning layout.now) ≤ length way.old }
-    requires few { count ≤ junctions (meaning layout.now) }
-    ensures { Told scale (net scale (meaning layout.now)) start goal (tabled scale start (take (junctions (meaning layout.now)) totals.now) (take (junctions (meaning layout.now)) came.now) (take count settled.now)) count way.old way.new result }
+    requires searched { Searched M.scale (net M.scale (L.meaning layout.now)) start (Some goal) (tabled M.scale start (take (junctions (L.meaning layout.now)) totals.now) (take (junctions (L.meaning layout.now)) came.now) (take count settled.now)) }
+    requires start { start < junctions (L.meaning layout.now) }
+    requires goal { goal < junctions (L.meaning layout.now) }
+    requires totals { junctions (L.meaning layout.now) ≤ length totals.now }
+    requires came { junctions (L.meaning layout.now) ≤ length came.now }
+    requires settled { junctions (L.meaning layout.now) ≤ length settled.now }
+    requires way { junctions (L.meaning layout.now) ≤ length way.old }
+    requires few { count ≤ junctions (L.meaning layout.now) }
+    ensures { Told M.scale (net M.scale (L.meaning layout.now)) start goal (tabled M.scale start (take (junctions (L.meaning layout.now)) totals.now) (take (junctions (L.meaning layout.now)) came.now) (take count settled.now)) count way.old way.new result }
 {
     let place = goal as usize;
     if goal != start && came[place] == NO_LEG {
@@ -123,7 +123,7 @@ pub fn search<L: Layout, M: Measure>(
     settled: &mut [u16],
     way: &mut [u16],
 ) -> Result<Found<M>, Refusal>
-    ensures { Answered scale (meaning layout.now) start goal (record { totals = totals.entry.now; came = came.old; waiting = waiting.old; settled = settled.old }) way.old (record { totals = totals.exit.now; came = came.new; waiting = waiting.new; settled = settled.new }) way.new result }
+    ensures { Answered M.scale (L.meaning layout.now) start goal (record { totals = totals.old; came = came.old; waiting = waiting.old; settled = settled.old }) way.old (record { totals = totals.new; came = came.new; waiting = waiting.new; settled = settled.new }) way.new result }
 {
     let sizes = [
         totals.len(),

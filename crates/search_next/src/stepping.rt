@@ -42,11 +42,11 @@ pub(crate) fn settle_one<L: Layout, M: Measure>(
     settled: &mut [u16],
     count: usize,
 ) -> Step
-    requires running { Running scale (net scale (meaning layout.now)) start goal (junctions (meaning layout.now)) totals.old came.old (take count settled.old) (waiting queue.old) }
-    requires slots { length queue.old.slots.now ≡ junctions (meaning layout.now) }
-    requires places { length settled.old ≡ junctions (meaning layout.now) }
+    requires running { Running M.scale (net M.scale (L.meaning layout.now)) start goal (junctions (L.meaning layout.now)) totals.old came.old (take count settled.old) (waiting queue.old) }
+    requires slots { length queue.old.slots.now ≡ junctions (L.meaning layout.now) }
+    requires places { length settled.old ≡ junctions (L.meaning layout.now) }
     requires within { count ≤ length settled.old }
-    ensures stepped { Stepped scale (net scale (meaning layout.now)) start goal (junctions (meaning layout.now)) count totals.new came.new settled.new (waiting queue.new) result }
+    ensures stepped { Stepped M.scale (net M.scale (L.meaning layout.now)) start goal (junctions (L.meaning layout.now)) count totals.new came.new settled.new (waiting queue.new) result }
     ensures slots { length queue.new.slots.now ≡ length queue.old.slots.now }
     ensures lent { queue.new.slots.ghost_name ≡ queue.old.slots.ghost_name }
     ensures past { drop (settled_after count result) settled.new ≡ drop (settled_after count result) settled.old }

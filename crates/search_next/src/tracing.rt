@@ -9,8 +9,8 @@ use layout::asking::Layout;
 
 // The junction that a leg leaves.
 fn tail_of<L: Layout>(layout: &L, leg: u32) -> u16
-    requires { leg < length (meaning layout.now).legs }
-    ensures { result ≡ (leg_at (meaning layout.now) leg).tail }
+    requires { leg < length (L.meaning layout.now).legs }
+    ensures { result ≡ (leg_at (L.meaning layout.now) leg).tail }
 {
     match layout.tail(leg) {
         Some(tail) => tail as u16,
@@ -21,7 +21,7 @@ fn tail_of<L: Layout>(layout: &L, leg: u32) -> u16
 // Copies out the junction that each leg leaves.
 fn copy_tails<L: Layout>(layout: &L, tails: &mut [u16])
     requires { length tails.old ≡ 512 }
-    ensures { Tailed (meaning layout.now) tails.new }
+    ensures { Tailed (L.meaning layout.now) tails.new }
 {
     for leg in 0..layout.legs() {
         tails[leg as usize] = tail_of(layout, leg);
@@ -37,12 +37,12 @@ pub(crate) fn trace_way<L: Layout>(
     goal: u32,
     way: &mut [u16],
 ) -> usize
-    requires falling { Falling (meaning layout.now) came.now (take count settled.now) }
+    requires falling { Falling (L.meaning layout.now) came.now (take count settled.now) }
     requires there { place_in (take count settled.now) goal < count }
     requires within { count ≤ length settled.now }
     requires room { count ≤ length way.old }
     requires small { goal < 65536 }
-    ensures traced { TracedBack (meaning layout.now) came.now goal (take result way.new) }
+    ensures traced { TracedBack (L.meaning layout.now) came.now goal (take result way.new) }
     ensures few { result < count }
     ensures rest { drop result way.new ≡ drop result way.old }
 {

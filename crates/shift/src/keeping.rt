@@ -24,8 +24,8 @@ pub fn promise_kept_after<L: Layout + Drop, M: Measure>(
     settled: &mut [u16],
     way: &mut [u16],
 ) -> Result<Found<M>, Refusal>
-    ensures answers { AnswersShift scale (L.Layout.meaning layout) (record { totals = length totals.entry.now; came = length came.old; waiting = length waiting.old; settled = length settled.old; way = length way.old }) turns.old turns.new }
-    ensures promise { KeptAfter scale (L.Layout.meaning layout) (calls_of (record { totals = length totals.entry.now; came = length came.old; waiting = length waiting.old; settled = length settled.old; way = length way.old }) turns.old) start goal (record { totals = length totals.entry.now; came = length came.old; waiting = length waiting.old; settled = length settled.old; way = length way.old }) (record { totals = totals.exit.now; came = came.new; waiting = waiting.new; settled = settled.new }) way.new result }
+    ensures answers { AnswersShift M.scale (L.Layout.meaning layout) (record { totals = length totals.old; came = length came.old; waiting = length waiting.old; settled = length settled.old; way = length way.old }) turns.old turns.new }
+    ensures promise { KeptAfter M.scale (L.Layout.meaning layout) (calls_of (record { totals = length totals.old; came = length came.old; waiting = length waiting.old; settled = length settled.old; way = length way.old }) turns.old) start goal (record { totals = length totals.old; came = length came.old; waiting = length waiting.old; settled = length settled.old; way = length way.old }) (record { totals = totals.new; came = came.new; waiting = waiting.new; settled = settled.new }) way.new result }
 {
     let mut router = Router::commission(layout);
     work(&mut router, turns, totals, came, waiting, settled, way);

@@ -56,7 +56,7 @@ fn renew_lent<L: Layout, M: Measure>(
     settled: &mut [u16],
 ) -> Result<u32, Refusal>
     ensures below { router.new.sheet.below ≡ router.old.sheet.below }
-    ensures book { Goes_on scale (L.Layout.meaning router.old.sheet.below) (renew hall (min places.totals (length totals.old)) (min places.came (length came.old)) (min places.waiting (length waiting.old)) (min places.settled (length settled.old))) (marked_answer result) router.old.sheet.sheet router.old.halls router.new.sheet.sheet router.new.halls }
+    ensures book { Goes_on M.scale (L.Layout.meaning router.old.sheet.below) (renew hall (min places.totals (length totals.old)) (min places.came (length came.old)) (min places.waiting (length waiting.old)) (min places.settled (length settled.old))) (marked_answer result) router.old.sheet.sheet router.old.halls router.new.sheet.sheet router.new.halls }
 {
     let t = places.totals.min(totals.len());
     let c = places.came.min(came.len());
@@ -83,7 +83,7 @@ fn route_lent<L: Layout, M: Measure>(
     settled: &mut [u16],
     way: &mut [u16],
 ) -> Result<Found<M>, Refusal>
-    ensures { (w : List ℕ) × WholeWay result w × Goes_on scale (L.Layout.meaning router.now.sheet.below) (route start goal (min places.totals (length totals.old)) (min places.came (length came.old)) (min places.waiting (length waiting.old)) (min places.settled (length settled.old)) (min places.way (length way.old))) (route_answer result w) router.now.sheet.sheet router.now.halls router.now.sheet.sheet router.now.halls }
+    ensures { (w : List ℕ) × WholeWay result w × Goes_on M.scale (L.Layout.meaning router.now.sheet.below) (route start goal (min places.totals (length totals.old)) (min places.came (length came.old)) (min places.waiting (length waiting.old)) (min places.settled (length settled.old)) (min places.way (length way.old))) (route_answer result w) router.now.sheet.sheet router.now.halls router.now.sheet.sheet router.now.halls }
 {
     let t = places.totals.min(totals.len());
     let c = places.came.min(came.len());
@@ -113,7 +113,7 @@ pub(crate) fn carry_out<L: Layout, M: Measure>(
     way: &mut [u16],
 ) -> Reply<M>
     ensures below { router.new.sheet.below ≡ router.old.sheet.below }
-    ensures book { AnswersCall scale (L.Layout.meaning router.old.sheet.below) (call_of order (lent places (record { totals = length totals.entry.now; came = length came.old; waiting = length waiting.old; settled = length settled.old; way = length way.old }))) router.old.sheet.sheet router.old.halls router.new.sheet.sheet router.new.halls result }
+    ensures book { AnswersCall M.scale (L.Layout.meaning router.old.sheet.below) (call_of order (lent places (record { totals = length totals.old; came = length came.old; waiting = length waiting.old; settled = length settled.old; way = length way.old }))) router.old.sheet.sheet router.old.halls router.new.sheet.sheet router.new.halls result }
 {
     match order {
         Order::Shut { leg } => lapsed(router.shut(leg)),

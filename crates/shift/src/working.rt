@@ -20,10 +20,10 @@ pub(crate) fn work<L: Layout, M: Measure>(
     settled: &mut [u16],
     way: &mut [u16],
 )
-    requires { Worked scale (L.Layout.meaning router.old.sheet.below) [] router.old.sheet.sheet router.old.halls }
+    requires { Worked M.scale (L.Layout.meaning router.old.sheet.below) [] router.old.sheet.sheet router.old.halls }
     ensures below { router.new.sheet.below ≡ router.old.sheet.below }
-    ensures worked { Worked scale (L.Layout.meaning router.old.sheet.below) (calls_of (record { totals = length totals.entry.now; came = length came.old; waiting = length waiting.old; settled = length settled.old; way = length way.old }) turns.old) router.new.sheet.sheet router.new.halls }
-    ensures answers { AnswersShift scale (L.Layout.meaning router.old.sheet.below) (record { totals = length totals.entry.now; came = length came.old; waiting = length waiting.old; settled = length settled.old; way = length way.old }) turns.old turns.new }
+    ensures worked { Worked M.scale (L.Layout.meaning router.old.sheet.below) (calls_of (record { totals = length totals.old; came = length came.old; waiting = length waiting.old; settled = length settled.old; way = length way.old }) turns.old) router.new.sheet.sheet router.new.halls }
+    ensures answers { AnswersShift M.scale (L.Layout.meaning router.old.sheet.below) (record { totals = length totals.old; came = length came.old; waiting = length waiting.old; settled = length settled.old; way = length way.old }) turns.old turns.new }
 {
     for i in 0..turns.len() {
         let turn = turns[i];

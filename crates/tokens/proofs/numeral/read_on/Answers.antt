@@ -7,7 +7,7 @@ returns-in-err-n c = rw c.from-residual.ensures (λ all. c.in-err-n.ensures (dig
 
 pub loop-byte-preserved : goal.loop-byte-preserved
 loop-byte-preserved c =
-    let d = c.in-ok-n.ensures in
+    let d = c.in_ok-n.ensures in
     read_more _ _ _ _ _ (omega arith) c.loop-byte.invariant d.0 d.1
 
 pub returns : goal.returns

@@ -7,4 +7,4 @@ returns-in-err-next-value c =
 
 pub returns : goal.returns
 returns c =
-    number_taken c.args.self.now c.next-value.new.self c.in-ok-next-value.field-0 _ c.in-ok-next-value.ensures c.number-of.ensures
+    number_taken c.args.self.now c.next_value.new.self c.in_ok-next_value.field-0 _ c.in_ok-next_value.ensures c.number_of.ensures

@@ -11,6 +11,6 @@ returns-in-err-place c = rw c.from-residual.ensures (keyless_stuck c.args.self.n
 pub returns : goal.returns
 returns c =
     let line = c.args.self.now.rest.now in
-    let place = c.in-ok-place.place in
-    let cut = cut_at 61 line place c.in-ok-place.ensures in
+    let place = c.in_ok-place.place in
+    let cut = cut_at 61 line place c.in_ok-place.ensures in
     (c.requires, subst (Cut 61 line (take place line)) (sym (take_rest line (place + 1))) cut, refl)

@@ -13,8 +13,8 @@ returns-in-err-length c = rw c.from-residual.ensures (stray_stuck c.args.self.no
 pub returns : goal.returns
 returns c =
     let values = c.args.self.now.rest.now in
-    let n = c.in-ok-length.length in
-    let upto = c.in-ok-length.ensures in (
+    let n = c.in_ok-length.length in
+    let upto = c.in_ok-length.ensures in (
       c.requires,
       upto.plain,
       elim c.if-length-values.branch [
