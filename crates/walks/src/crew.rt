@@ -5,17 +5,17 @@ use measure::measure::Measure;
 
 // Every list of calls leaves marks, and only one set of them; one more call carries on from there.
 pub fn marks_left<M: Measure>()
-    ensures once { MarksLeft scale }
-    ensures more { CarriesOn scale }
+    ensures once { MarksLeft M.scale }
+    ensures more { CarriesOn M.scale }
 {}
 
 // Every call has an answer, and only one, and so has each call of a list.
 pub fn answered_once<M: Measure>()
-    ensures one { AnsweredOnce scale }
-    ensures all { ToldOnce scale }
+    ensures one { AnsweredOnce M.scale }
+    ensures all { ToldOnce M.scale }
 {}
 
 // A route over the marks left keeps its promise to the crews.
 pub fn crew_promise<M: Measure>()
-    ensures { CrewPromise scale }
+    ensures { CrewPromise M.scale }
 {}

@@ -5,11 +5,11 @@ use measure::measure::Measure;
 
 // Marks on every flagged leg feed their hall, and marks that feed a hall serve it.
 pub fn feeds_serve<M: Measure>()
-    ensures flagged { FlagsFeed scale }
-    ensures served { FeedsServe scale }
+    ensures flagged { FlagsFeed M.scale }
+    ensures served { FeedsServe M.scale }
 {}
 
 // Shutting or worsening unmarked legs leaves the hall fed.
 pub fn still_feeds<M: Measure>()
-    ensures { StillFeeds scale }
+    ensures { StillFeeds M.scale }
 {}

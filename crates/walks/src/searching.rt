@@ -7,46 +7,46 @@ use measure::measure::Measure;
 
 // Every settled junction has its best total.
 pub fn settled_best<M: Measure>()
-    ensures { SettledBest scale }
+    ensures { SettledBest M.scale }
 {}
 
 // The goal is settled exactly when a walk leads there, and without a goal all that walks lead to is settled.
 pub fn found_exactly<M: Measure>()
-    ensures exactly { FoundExactly scale }
-    ensures all { FoundAll scale }
+    ensures exactly { FoundExactly M.scale }
+    ensures all { FoundAll M.scale }
 {}
 
 // The way that came-by gives is a walk with the total answered, and the only one.
 pub fn traced_walk<M: Measure>()
-    ensures { TracedWalk scale }
+    ensures { TracedWalk M.scale }
 {}
 
 // Two searches for the same leave the same.
 pub fn determined<M: Measure>()
-    ensures { Determined scale }
+    ensures { Determined M.scale }
 {}
 
 // The rule always ends.
 pub fn search_ends<M: Measure>()
-    ensures { SearchEnds scale }
+    ensures { SearchEnds M.scale }
 {}
 
 // Taking legs in number order is the relaxation that the rule describes.
 pub fn in_turn<M: Measure>()
-    ensures { InTurn scale }
+    ensures { InTurn M.scale }
 {}
 
 // Tables that hold what a search left show it whole.
 pub fn tabled_whole<M: Measure>()
-    ensures { TabledWhole scale }
+    ensures { TabledWhole M.scale }
 {}
 
 // Best totals over the turned layer are those of the ways back.
 pub fn turned_best<M: Measure>()
-    ensures { TurnedBest scale }
+    ensures { TurnedBest M.scale }
 {}
 
 // Where a walk leads, there is a best one.
 pub fn best_exists<M: Measure>()
-    ensures { BestExists scale }
+    ensures { BestExists M.scale }
 {}

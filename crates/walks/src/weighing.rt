@@ -8,7 +8,7 @@ use measure::measure::Measure;
 
 // The weight of a leg by its number, and none past the end.
 pub fn weigh<L: Layout, M: Measure>(layout: &L, leg: u32) -> Option<M>
-    ensures { result ≡ weight_if_any scale (meaning layout.now) leg }
+    ensures { result ≡ weight_if_any M.scale (L.meaning layout.now) leg }
 {
     let metres = layout.metres(leg)?;
     let class = layout.class(leg)?;
