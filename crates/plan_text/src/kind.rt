@@ -7,8 +7,8 @@ use measure::{Headroom, Measure, Tenths, TimeTurns};
 #[derive(Clone, Copy, PartialEq, Eq, Debug)]
 pub enum Kind {
     Time,
-    Headroom,
-    TimeTurns,
+    Clearance,
+    TimeThenTurns,
 }
 
 impl Kind {

@@ -16,7 +16,7 @@ use Rattle.tokens.proofs.Cutting.{lacks_not_cut, one_cut, lacks_or_cut}
 
 -- bytes as a part of the line's text
 abbrev pub lent : Line → List ℕ → Bytes
-lent line bytes = record { ref_ptr = line.rest.ptr; ghost_name = line.rest.name; now = bytes }
+lent line bytes = record { ref_ptr = line.rest.ref_ptr; now = bytes }
 
 -- what is due is one of three
 pub key_not_value : (d : Due) → d ≡ Due.Key → d ≡ Due.Value → ⊥

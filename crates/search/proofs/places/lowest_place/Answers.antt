@@ -4,7 +4,7 @@ use Rattle.std.proofs.lemmas.List.MinMax.{IsFirstBest-keeps, IsFirstBest-takes}
 use Rattle.search.specs.Waiting.{before}
 use Rattle.search.proofs.Ranking.{slots_rank}
 use Rattle.search.proofs.places.lowest_place.Goals as goal
-use Rattle.search.proofs.places.lowest_place.Goals.{then-is-before, else-is-before}
+use Rattle.search.proofs.places.lowest_place.Goals.{then-is_before, else-is_before}
 
 pub loop-i-preserved : goal.loop-i-preserved
 loop-i-preserved g c =
@@ -13,15 +13,15 @@ loop-i-preserved g c =
     let m = g.M.Measure.scale in
     let ranks = slots_rank g.met.M.Measure.lawful in
     let inside : i < length xs = omega arith in
-    elim c.if-is-before.branch [
-      | then-is-before w ↦ (
+    elim c.if-is_before.branch [
+      | then-is_before w ↦ (
         omega arith,
         subst (IsFirstBest (before m) xs (i + 1)) (sym w.best-is)
-            (IsFirstBest-takes ranks xs i c.loop-i.best _ _ c.loop-i.invariant.1 inside c.index-slots-i.is c.index-slots-best.is (sym w.if-is-before.ensures)),
+            (IsFirstBest-takes ranks xs i c.loop-i.best _ _ c.loop-i.invariant.1 inside c.index-slots-i.is c.index-slots-best.is (sym w.if-is_before.ensures)),
       )
-      | else-is-before w ↦ (
+      | else-is_before w ↦ (
         omega arith,
         subst (IsFirstBest (before m) xs (i + 1)) (sym w.best-is)
-            (IsFirstBest-keeps ranks xs i c.loop-i.best _ _ c.loop-i.invariant.1 inside c.index-slots-i.is c.index-slots-best.is (sym w.if-is-before.ensures)),
+            (IsFirstBest-keeps ranks xs i c.loop-i.best _ _ c.loop-i.invariant.1 inside c.index-slots-i.is c.index-slots-best.is (sym w.if-is_before.ensures)),
       )
     ]

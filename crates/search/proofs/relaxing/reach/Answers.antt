@@ -46,7 +46,7 @@ returns g c =
             slots = ap (λ (k : Queue g.row.M.Denot). length k.slots.now) w.queue-is ∙ after.rest.size;
             lent = ap (λ (k : Queue g.row.M.Denot). k.slots.ghost_name) w.queue-is ∙ after.lent;
           }
-      | goal.else-head-start+else-not-is-below w ↦
+      | goal.else-head-start+else-not-is_below w ↦
           let z = w.index-totals-place.result in
           let place = c.requires.there in
           let all_totals = c.requires.tables.all_totals in
@@ -62,7 +62,7 @@ returns g c =
             offered = inr (inl (
               z,
               has ∙ ap Some held,
-              sym w.if-not-is-below.ensures,
+              sym w.if-not-is_below.ensures,
               refl,
               refl,
               λ q. ap (λ (k : Queue g.row.M.Denot). waiting k q) w.queue-is ∙ after.waiting q

@@ -8,8 +8,8 @@ use Rattle.search.proofs.Leaving.{leg_there, offer_tail}
 use Rattle.search.proofs.Relaxed.{passed_over}
 use Rattle.search.proofs.relaxing.relax.Goals as goal
 
-pub overflow-add-from : goal.overflow-add-from
-overflow-add-from g c =
+pub overflow_add-from : goal.overflow_add-from
+overflow_add-from g c =
     let m = g.M.Measure.scale in
     let p = g.L.Layout.meaning c.args.layout.now in
     let legs = (g.L.Layout.sound c.args.layout.now).few_legs in
@@ -35,10 +35,10 @@ loop-leg-preserved g c =
     let next = c.in-Some.ensures in
     let inv = c.loop-leg.invariant in
     let within = leg_there m p leg u next.1 in
-    let took = c.take-leg.ensures in
+    let took = c.take_leg.ensures in
     let all = inv.1.all_came in (
       omega arith,
-      subst (λ (n : ℕ). TablesOf m n start c.take-leg.new.totals c.take-leg.new.came) all took.tables,
+      subst (λ (n : ℕ). TablesOf m n start c.take_leg.new.totals c.take_leg.new.came) all took.tables,
       took.slots ∙ inv.2,
       took.lent ∙ inv.3,
       λ st stands.
@@ -46,7 +46,7 @@ loop-leg-preserved g c =
           let here = took.took st before.stands in
           let s = tabled m start c.args.totals.now c.args.came.now st in
           let now-at = tabled m start c.loop-leg.totals c.loop-leg.branch st in
-          let after = tabled m start c.take-leg.new.totals c.take-leg.new.came st in
+          let after = tabled m start c.take_leg.new.totals c.take_leg.new.came st in
           let passed = passed_over m (net m p) st u c.args.at s now-at c.loop-leg.from leg next.0
           (λ i low high v offer. next.2 i low high (offer_tail m p u v i offer)) before.taken in
           let more : TakesTo m (net m p) st u c.args.at s (suc leg) after = (now-at, passed, here.takes) in
@@ -59,7 +59,7 @@ returns g c =
     let p = g.L.Layout.meaning c.args.layout.now in
     let u = c.args.junction in
     let start = c.args.start in
-    let none = c.in-default.ensures in
+    let none = c.in_default.ensures in
     let inv = c.loop-leg.invariant in
     record {
       tables = inv.1;

@@ -10,15 +10,15 @@ use Rattle.search.proofs.Leaving.{tail_there, leg_there}
 use Rattle.search.proofs.Relaxed.{nothing_moves, agrees_totalled, offer_taken, offer_tables}
 use Rattle.search.proofs.relaxing.take_leg.Goals as goal
 
-pub returns-in-default : goal.returns-in-default
-returns-in-default g c =
+pub returns-in_default : goal.returns-in_default
+returns-in_default g c =
     let m = g.M.Measure.scale in
     let p = g.L.Layout.meaning c.args.layout.now in
     record {
       tables = c.requires.tables;
       took = λ st stands. record {
         takes = nothing_moves m (net m p) st c.args.junction c.args.at c.args.leg _
-            (λ v moves. both_ways ((net m p).usable c.args.leg) c.in-default.ensures moves.offer.usable);
+            (λ v moves. both_ways ((net m p).usable c.args.leg) c.in_default.ensures moves.offer.usable);
         stands = stands;
       };
       slots = refl;

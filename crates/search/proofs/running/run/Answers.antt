@@ -40,8 +40,8 @@ loop-count-preserved g c =
     let told = c.in-Settled.ensures in
     let inv = c.loop-count.invariant in
     let same = inv.3 in
-    let running = subst (λ (n : ℕ). Running m (net m p) c.args.start c.args.goal n c.settle-one.new.totals c.settle-one.new.came
-    (take (c.loop-count.count + 1) c.settle-one.new.settled) (waiting c.settle-one.new.queue)) same told.stepped.1 in
+    let running = subst (λ (n : ℕ). Running m (net m p) c.args.start c.args.goal n c.settle_one.new.totals c.settle_one.new.came
+    (take (c.loop-count.count + 1) c.settle_one.new.settled) (waiting c.settle_one.new.queue)) same told.stepped.1 in
     let before = told.stepped.0 in (
       running,
       omega arith,
@@ -61,7 +61,7 @@ returns-in-Arrived g c =
     let places = c.requires.settled in
     record {
       searched = told.stepped.2;
-      tables = subst (λ (n : ℕ). TablesOf m n c.args.start c.settle-one.new.totals c.settle-one.new.came) same told.stepped.1;
+      tables = subst (λ (n : ℕ). TablesOf m n c.args.start c.settle_one.new.totals c.settle_one.new.came) same told.stepped.1;
       within = omega arith;
       past = one_more c.loop-count.count _ c.loop-count.settled _ told.past inv.5;
     }
@@ -76,7 +76,7 @@ returns-in-Stuck g c =
     let places = c.requires.settled in
     record {
       searched = told.stepped.1;
-      tables = subst (λ (n : ℕ). TablesOf m n c.args.start c.settle-one.new.totals c.settle-one.new.came) same told.stepped.0;
+      tables = subst (λ (n : ℕ). TablesOf m n c.args.start c.settle_one.new.totals c.settle_one.new.came) same told.stepped.0;
       within = omega arith;
       past = told.past ∙ inv.5;
     }

@@ -17,8 +17,8 @@ returns-then-came-goal g c =
     )
 
 -- the goal has a total where it is the start or came by a leg
-pub trace-way-legs-requires : goal.trace-way-legs-requires
-trace-way-legs-requires g c =
+pub trace_way-legs-requires : goal.trace_way-legs-requires
+trace_way-legs-requires g c =
     let m = g.M.Measure.scale in
     let laws = g.met.M.Measure.lawful in
     let p = g.L.Layout.meaning c.args.layout.now in
@@ -69,9 +69,9 @@ returns g c =
     ] in
     let has : (tabled m c.args.start (take (junctions p) totals) (take (junctions p) came) settled).total c.args.goal ≡ Some x = has-by ∙ ap Some (sym c.index-totals-goal.is) in
     let h = with_total laws p c.args.start c.args.goal totals came settled c.requires.came c.requires.goal c.requires.searched x has in
-    let told = c.trace-way-legs.ensures in
-    let legs = c.trace-way-legs.result in
-    let way = c.trace-way-legs.new.way in
+    let told = c.trace_way-legs.ensures in
+    let legs = c.trace_way-legs.result in
+    let way = c.trace_way-legs.new.way in
     let traced = traced_back laws p sound c.args.start (Some c.args.goal) totals came settled c.requires.start c.requires.came c.requires.searched c.args.goal (take legs way) h told.traced in
     let same : length way ≡ length c.args.way.now = search rules in
     let few = c.requires.few in

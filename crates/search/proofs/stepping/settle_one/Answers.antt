@@ -11,10 +11,10 @@ use Rattle.search.specs.Standing.{TablesOf}
 use Rattle.search.proofs.OneStep.{stuck_ends, place_left, longer_stands, arrived_ends, still_running}
 use Rattle.search.proofs.stepping.settle_one.Goals as goal
 
-pub returns-in-default : goal.returns-in-default
-returns-in-default g c =
+pub returns-in_default : goal.returns-in_default
+returns-in_default g c =
     let m = g.M.Measure.scale in
-    let told = c.in-default.ensures in
+    let told = c.in_default.ensures in
     record {
       stepped = (c.requires.running.tables, stuck_ends g.met.M.Measure.lawful _ _ _ _ _ _ _ _ c.requires.running told.taken.0);
       slots = told.rest.size;
@@ -30,8 +30,8 @@ bounds-settled-count g c =
     let places = c.requires.places in
     omega arith
 
-pub returns-then-is-goal : goal.returns-then-is-goal
-returns-then-is-goal g c =
+pub returns-then-is_goal : goal.returns-then-is_goal
+returns-then-is_goal g c =
     let m = g.M.Measure.scale in
     let p = g.L.Layout.meaning c.args.layout.now in
     let told = c.in-Some.ensures in
@@ -41,7 +41,7 @@ returns-then-is-goal g c =
     let long = length-take-le c.args.count settled c.requires.within in
     let places = c.requires.places in
     let inside : c.args.count < length settled = omega arith in
-    let is = c.is-goal.ensures.0 c.if-is-goal.true in
+    let is = c.is_goal.ensures.0 c.if-is_goal.true in
     let ends = arrived_ends g.met.M.Measure.lawful _ _ _ _ _ _ _ _ c.requires.running u c.in-Some.lowest.total told.taken.0 is in
     record {
       stepped = (
@@ -63,7 +63,7 @@ relax-requires g c =
       tables = c.requires.running.tables;
       standing = (
         take c.args.count c.args.settled.now ++ (u ∷ []),
-        longer_stands g.met.M.Measure.lawful _ _ _ _ _ _ _ _ c.requires.running u c.in-Some.lowest.total told.taken.0 (waiting c.take-lowest.new.self) told.taken.1,
+        longer_stands g.met.M.Measure.lawful _ _ _ _ _ _ _ _ c.requires.running u c.in-Some.lowest.total told.taken.0 (waiting c.take_lowest.new.self) told.taken.1,
       );
       slots = told.rest.size ∙ c.requires.slots;
       all = c.requires.all;
@@ -84,8 +84,8 @@ returns g c =
     let long = length-take-le c.args.count settled c.requires.within in
     let places = c.requires.places in
     let inside : c.args.count < length settled = omega arith in
-    let not_goal : c.args.goal ≢ Some u = λ is. both_ways c.is-goal.result c.if-is-goal.false (c.is-goal.ensures.1 is) in
-    let stands = longer_stands laws _ _ _ _ _ _ _ _ c.requires.running u x told.taken.0 (waiting c.take-lowest.new.self) told.taken.1 in
+    let not_goal : c.args.goal ≢ Some u = λ is. both_ways c.is_goal.result c.if-is_goal.false (c.is_goal.ensures.1 is) in
+    let stands = longer_stands laws _ _ _ _ _ _ _ _ c.requires.running u x told.taken.0 (waiting c.take_lowest.new.self) told.taken.1 in
     let relaxed = c.relax.ensures.relaxed (st ++ (u ∷ [])) stands in
     let runs = still_running laws (net m p) c.args.start c.args.goal (length c.args.came.now) c.args.totals.now c.args.came.now st (waiting c.args.queue.now)
     c.requires.running u x told.taken.0 (length p.legs) (net_finite m p sound).leg_exists not_goal

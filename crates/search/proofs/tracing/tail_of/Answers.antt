@@ -3,8 +3,8 @@ use Rattle.search.proofs.Tails.{asked_tail, asked_exists, tail_asked}
 use Rattle.search.proofs.tracing.tail_of.Goals as goal
 
 -- a junction's number fits
-pub overflow-cast-result : goal.overflow-cast-result
-overflow-cast-result g c =
+pub overflow_cast-result : goal.overflow_cast-result
+overflow_cast-result g c =
     let sound = g.L.Layout.sound c.args.layout.now in
     let there = asked_exists (g.L.Layout.meaning c.args.layout.now) c.args.leg c.in-Some.tail c.in-Some.ensures sound in
     let few = sound.few_junctions in

@@ -2,8 +2,8 @@ use Rattle.std.proofs.Common.{arith}
 use Rattle.tokens.proofs.Decimal.{digits_at, read_more, read_all}
 use Rattle.tokens.proofs.numeral.read_on.Goals as goal
 
-pub returns-in-err-n : goal.returns-in-err-n
-returns-in-err-n c = rw c.from-residual.ensures (λ all. c.in-err-n.ensures (digits_at _ c.loop-byte.byte-index all (omega arith)))
+pub returns-in_err-n : goal.returns-in_err-n
+returns-in_err-n c = rw c.from_residual.ensures (λ all. c.in_err-n.ensures (digits_at _ c.loop-byte.byte-index all (omega arith)))
 
 pub loop-byte-preserved : goal.loop-byte-preserved
 loop-byte-preserved c =

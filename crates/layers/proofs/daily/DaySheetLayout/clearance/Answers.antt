@@ -4,18 +4,18 @@ use Rattle.layers.specs.Day.{entered_leg, replacing}
 use Rattle.layers.proofs.Relegging.{figure_made, leg_below}
 use Rattle.layers.proofs.daily.DaySheetLayout.clearance.Goals as goal
 
-pub returns-in-err-own : goal.returns-in-err-own
-returns-in-err-own g c =
+pub returns-in_err-own : goal.returns-in_err-own
+returns-in_err-own g c =
     let s = c.args.self.now.sheet in
     let leg = c.args.leg in
     let legs = (g.L.Layout.meaning c.args.self.now.below).legs in
     let entered = figure_made (entered_leg s) (λ l. l.clearance) (λ l. l.clearance) (λ own. unwrap_or (option_map (λ by. by.clearance) (replacing s leg)) own) legs leg (λ l. refl) in
-    c.from-residual.ensures ∙ entered None c.in-err-own.ensures
+    c.from_residual.ensures ∙ entered None c.in_err-own.ensures
 
-pub clearance-of-requires : goal.clearance-of-requires
-clearance-of-requires g c =
+pub clearance_of-requires : goal.clearance_of-requires
+clearance_of-requires g c =
     let below = c.args.self.now.below in
-    leg_below (g.L.Layout.meaning below) (g.L.Layout.sound below) (λ l. l.clearance) c.args.leg c.in-ok-own.own_val c.in-ok-own.ensures
+    leg_below (g.L.Layout.meaning below) (g.L.Layout.sound below) (λ l. l.clearance) c.args.leg c.in_ok-own.own c.in_ok-own.ensures
 
 pub returns : goal.returns
 returns g c =
@@ -23,5 +23,5 @@ returns g c =
     let leg = c.args.leg in
     let legs = (g.L.Layout.meaning c.args.self.now.below).legs in
     let entered = figure_made (entered_leg s) (λ l. l.clearance) (λ l. l.clearance) (λ own. unwrap_or (option_map (λ by. by.clearance) (replacing s leg)) own) legs leg (λ l. refl) in
-    let answer = entered (Some c.in-ok-own.own_val) c.in-ok-own.ensures in
+    let answer = entered (Some c.in_ok-own.own) c.in_ok-own.ensures in
     search rules

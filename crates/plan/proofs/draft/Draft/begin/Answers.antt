@@ -1,4 +1,4 @@
 use Rattle.plan.proofs.draft.Draft.begin.Goals as goal
 
-pub invariant-of-result : goal.invariant-of-result
-invariant-of-result c = (∣ c.blank.ensures.kept ∣₁, tt)
+pub invariant_of-result : goal.invariant_of-result
+invariant_of-result c = record { kept = ∣ c.blank.ensures.kept ∣₁ }

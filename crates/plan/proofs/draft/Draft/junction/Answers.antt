@@ -13,15 +13,15 @@ returns-in-Some c =
     let e : junction_due (drawn d) c.args.hall ≡ Some c.in-Some.refusal = rw many due in
     record { answer = rw e; after = rw e }
 
-pub put-junction-requires : goal.put-junction-requires
-put-junction-requires c =
+pub put_junction-requires : goal.put_junction-requires
+put_junction-requires c =
     let d = c.args.self.now.drawing in
     let due : place_due d.halls d.points c.args.hall ≡ None = search rules in
     let ok = place_passed d.halls d.points c.args.hall due in
     (kept_out d c.args.self.now.kept, (ok.0, ok.1))
 
-pub invariant-of-self : goal.invariant-of-self
-invariant-of-self c = (∣ c.put-junction.ensures.kept ∣₁, tt)
+pub invariant_of-self : goal.invariant_of-self
+invariant_of-self c = record { kept = ∣ c.put_junction.ensures.kept ∣₁ }
 
 pub returns : goal.returns
 returns c =
@@ -29,4 +29,4 @@ returns c =
     let many = points_are d (kept_out d c.args.self.now.kept) in
     let due : place_due d.halls d.points c.args.hall ≡ None = search rules in
     let e : junction_due (drawn d) c.args.hall ≡ None = rw many due in
-    record { answer = rw e (ap Ok (sym many)); after = rw e c.put-junction.ensures.means }
+    record { answer = rw e (ap Ok (sym many)); after = rw e c.put_junction.ensures.means }

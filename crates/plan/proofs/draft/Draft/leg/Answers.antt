@@ -14,15 +14,15 @@ returns-in-Some c =
     let e : leg_due (drawn d) (leg_of c.args.belt) ≡ Some c.in-Some.refusal = rw (points_are d k, count_is d k) due in
     record { answer = rw e; after = rw e }
 
-pub put-leg-requires : goal.put-leg-requires
-put-leg-requires c =
+pub put_leg-requires : goal.put_leg-requires
+put_leg-requires c =
     let d = c.args.self.now.drawing in
     let due : entry_due d.points d.count (leg_of c.args.belt) ≡ None = search rules in
     let ok = entry_passed d.points d.count (leg_of c.args.belt) due in
     (kept_out d c.args.self.now.kept, (ok.0, ok.1))
 
-pub invariant-of-self : goal.invariant-of-self
-invariant-of-self c = (∣ c.put-leg.ensures.kept ∣₁, tt)
+pub invariant_of-self : goal.invariant_of-self
+invariant_of-self c = record { kept = ∣ c.put_leg.ensures.kept ∣₁ }
 
 pub returns : goal.returns
 returns c =
@@ -30,4 +30,4 @@ returns c =
     let k = kept_out d c.args.self.now.kept in
     let due : entry_due d.points d.count (leg_of c.args.belt) ≡ None = search rules in
     let e : leg_due (drawn d) (leg_of c.args.belt) ≡ None = rw (points_are d k, count_is d k) due in
-    record { answer = rw e (ap Ok (sym (count_is d k))); after = rw e c.put-leg.ensures.means }
+    record { answer = rw e (ap Ok (sym (count_is d k))); after = rw e c.put_leg.ensures.means }

@@ -5,8 +5,8 @@ use Rattle.search.specs.Waiting.{apart, total_of}
 use Rattle.search.proofs.Slots.{put_total, put_apart}
 use Rattle.search.proofs.queue.Queue.insert.Goals as goal
 
-pub invariant-of-self : goal.invariant-of-self
-invariant-of-self g c =
+pub invariant_of-self : goal.invariant_of-self
+invariant_of-self g c =
     let queue = c.args.self.now in
     let xs = queue.slots.now in
     let n = queue.used in

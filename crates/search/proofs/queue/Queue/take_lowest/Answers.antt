@@ -3,8 +3,8 @@ use Rattle.std.proofs.lemmas.List.{length-set, drop-set-lt}
 use Rattle.search.proofs.Calls.{removed_total, removed_apart, removed_lowest}
 use Rattle.search.proofs.queue.Queue.take_lowest.Goals as goal
 
-pub invariant-of-self : goal.invariant-of-self
-invariant-of-self g c =
+pub invariant_of-self : goal.invariant_of-self
+invariant_of-self g c =
     let queue = c.args.self.now in
     let xs = queue.slots.now in
     let n = queue.used in

@@ -1,9 +1,9 @@
 use Rattle.tokens.proofs.Reading.{number_taken}
 use Rattle.tokens.proofs.line.Line.next_number.Goals as goal
 
-pub returns-in-err-next-value : goal.returns-in-err-next-value
-returns-in-err-next-value c =
-    rw c.from-residual.ensures (λ n after takes. c.in-err-next-value.ensures takes.0 after takes.1)
+pub returns-in_err-next_value : goal.returns-in_err-next_value
+returns-in_err-next_value c =
+    rw c.from_residual.ensures (λ n after takes. c.in_err-next_value.ensures takes.0 after takes.1)
 
 pub returns : goal.returns
 returns c =

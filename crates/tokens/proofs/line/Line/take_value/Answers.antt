@@ -7,8 +7,8 @@ use Rattle.tokens.proofs.Taking.{stray_stuck, comma_first}
 use Rattle.tokens.proofs.line.Line.take_value.Goals as goal
 use Rattle.tokens.proofs.line.Line.take_value.Goals.{then-length-values, else-length-values}
 
-pub returns-in-err-length : goal.returns-in-err-length
-returns-in-err-length c = rw c.from-residual.ensures (stray_stuck c.args.self.now c.requires c.in-err-length.ensures, refl)
+pub returns-in_err-length : goal.returns-in_err-length
+returns-in_err-length c = rw c.from_residual.ensures (stray_stuck c.args.self.now c.requires c.in_err-length.ensures, refl)
 
 pub returns : goal.returns
 returns c =
