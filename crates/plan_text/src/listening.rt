@@ -25,8 +25,8 @@ fn values_under<'a>(line: &'a [u8], key: &[u8]) -> Option<Line<'a>>
 
 // One line, whose number is `at`: its key has to be the one due.
 fn hear_line<L: Listener>(listener: &mut L, due: Due, line: &[u8], at: u32) -> Result<(), Refusal>
-    requires { waits listener.old ≡ Some due }
-    ensures { Hearing (Says (heard listener.old) at due line.now) (heard listener.old) result (heard listener.new) }
+    requires { L.waits listener.old ≡ Some due }
+    ensures { Hearing (Says (L.heard listener.old) at due line.now) (L.heard listener.old) result (L.heard listener.new) }
 {
     match values_under(line, due.key()) {
         Some(values) => listener.tell(due, values, at),
@@ -41,8 +41,8 @@ fn hear_next<'a, L: Listener>(
     text: &'a [u8],
     at: u32,
 ) -> Result<&'a [u8], Refusal>
-    requires { waits listener.old ≡ Some due }
-    ensures { elim result [ Ok rest ↦ Accepts (heard listener.old) at text.now (heard listener.new) rest.now | Err e ↦ Refuses (heard listener.old) at text.now e × (heard listener.new ≡ heard listener.old) ] }
+    requires { L.waits listener.old ≡ Some due }
+    ensures { elim result [ Ok rest ↦ Accepts (L.heard listener.old) at text.now (L.heard listener.new) rest.now | Err e ↦ Refuses (L.heard listener.old) at text.now e × (L.heard listener.new ≡ L.heard listener.old) ] }
 {
     if text.is_empty() {
         return Err(Refusal::NotDue(at));
@@ -69,8 +69,8 @@ pub(crate) struct Listened<'a> {
 // Listens to the lines of a text until the part is whole or a line is refused. So many lines came `before`.
 pub(crate) fn listen<'a, L: Listener>(listener: &mut L, text: &'a [u8], before: u32) -> Listened<'a>
     requires { before + length text.now ≤ 65536 }
-    ensures lines { Lines result.lines (heard listener.old) (before + 1) text.now (heard listener.new) result.rest.now }
-    ensures stops { Halts (waits listener.new ≡ None) (heard listener.new) (before + result.lines + 1) result.rest.now result.refusal }
+    ensures lines { Lines result.lines (L.heard listener.old) (before + 1) text.now (L.heard listener.new) result.rest.now }
+    ensures stops { Halts (L.waits listener.new ≡ None) (L.heard listener.new) (before + result.lines + 1) result.rest.now result.refusal }
     ensures fewer { result.lines + length result.rest.now ≤ length text.now }
     ensures tail { EndsWith text.now result.rest.now }
 {

@@ -6,7 +6,7 @@ use Rattle.std.proofs.lemmas.List.{take_more, get_or-take, get_or_default, lengt
 use Rattle.measure.specs.Scale.{Scale, Lawful}
 use Rattle.search.specs.declared.slot.Slot.{Slot}
 use Rattle.search.specs.Waiting.{total_of, apart, before, Lowest}
-use Rattle.search.proofs.Slots.{take_set_any, stands, set_total, set_apart, taken_total, taken_apart}
+use Rattle.search.proofs.Slots.{written_at, updated, take_set_any, stands, set_total, set_apart, taken_total, taken_apart}
 use Rattle.search.proofs.Ranking.{lowest_first}
 
 module _ {M : Type 0} (xs : List (Slot M)) (n : ℕ) (fits : n ≤ length xs) (distinct : apart (take n xs) ≡ true) where
@@ -21,7 +21,7 @@ module _ {M : Type 0} (xs : List (Slot M)) (n : ℕ) (fits : n ≤ length xs) (d
     pub found_total : (d : Slot M) → total_of (take n xs) s.number ≡ Some (get_or xs k d).total
     found_total d = stands (take n xs) k s distinct (within k lt) same_in_use ∙ ap (λ t. Some t.total) (get_or-take n xs k s lt ∙ get_or_default xs k s d (omega arith))
 
-    pub lowered_total : (q : ℕ) → total_of (take n (set xs k s)) q ≡ update eqb (total_of (take n xs)) s.number (Some s.total) q
+    pub lowered_total : (q : ℕ) → total_of (take n (set xs k s)) q ≡ written_at (total_of (take n xs)) s.number (Some s.total) q
     lowered_total q = ap (λ l. total_of l q) (take_set_any n xs k s) ∙ set_total (take n xs) k s distinct (within k lt) same_in_use q
 
     pub lowered_apart : apart (take n (set xs k s)) ≡ true
@@ -41,7 +41,8 @@ module _ {M : Type 0} (xs : List (Slot M)) (n : ℕ) (fits : n ≤ length xs) (d
     removed_total q =
         ap (λ l. total_of l q) (take_set_any (n - 1) xs k x)
         ∙ taken_total (take (n - 1) xs) x k s (subst (λ l. apart l ≡ true) split distinct) (subst (λ l. k < length l) split (within k lt)) (subst (λ l. s ≡ get_or l k s) split there_in_use) q
-        ∙ ap (λ l. update eqb (total_of l) s.number None q) (sym split)
+        ∙ ap (λ l. written_at (total_of l) s.number None q) (sym split)
+        ∙ updated (total_of (take n xs)) s.number None q
 
     pub removed_apart : apart (take (n - 1) (set xs k x)) ≡ true
     removed_apart =

@@ -16,6 +16,20 @@ none_from (Some x) e = absurd (some_none x (let z : ◌≡◌ {A = Option _} Non
 pub none_to : {M : Type 0} (o : Option M) → o ≡ None → not (is_some o) ≡ true
 none_to o e = ap (λ p. not (is_some p)) e
 
+eqb_swap : (a b : ℕ) → eqb a b ≡ eqb b a
+eqb_swap a b =
+    ⊎_elim
+    (λ t. t ∙ sym (eq-eqb b a (sym (eqb-true a b t))))
+    (λ f. f ∙ sym (ne_eqb b a (λ e. eqb-false a b f (sym e))))
+    (cases_Bool (eqb a b))
+
+-- f, with w at k
+abbrev pub written_at : {X : Type 0} → (ℕ → Option X) → ℕ → Option X → ℕ → Option X
+written_at f k w q = cond (eqb q k) w (f q)
+
+pub updated : {X : Type 0} (f : ℕ → Option X) (k : ℕ) (w : Option X) (q : ℕ) → written_at f k w q ≡ update eqb f k w q
+updated f k w q = ap (λ b. cond b w (f q)) (eqb_swap q k)
+
 -- a write at a place, seen in a front of the list
 pub take_set_any : {X : Type 0} (n : ℕ) (xs : List X) (k : ℕ) (x : X) → take n (set xs k x) ≡ set (take n xs) k x
 take_set_any zero xs k x = refl
@@ -57,7 +71,7 @@ module _ {M : Type 0} where
       ap (λ l. total_of l q) (take_more xs i s lt) ∙ last_lacks (take i xs) (get_or xs i s) q (λ e. other (ap (λ t. t.number) read ∙ e)) none
 
   -- one slot more at the end, with a number that does not wait
-  pub put_total : (xs : List (Slot M)) (s : Slot M) → total_of xs s.number ≡ None → (q : ℕ) → total_of (xs ++ (s ∷ [])) q ≡ update eqb (total_of xs) s.number (Some s.total) q
+  pub put_total : (xs : List (Slot M)) (s : Slot M) → total_of xs s.number ≡ None → (q : ℕ) → total_of (xs ++ (s ∷ [])) q ≡ written_at (total_of xs) s.number (Some s.total) q
   put_total [] s fresh q = refl
   put_total (w ∷ xs) s fresh q =
       let later = put_total xs s (not_others w xs s.number fresh) q in
@@ -95,7 +109,7 @@ module _ {M : Type 0} where
       (put_others xs s (others_apart w _ a))
 
   -- slot s in the place of one with its number
-  pub set_total : (xs : List (Slot M)) (k : ℕ) (s : Slot M) → apart xs ≡ true → k < length xs → (get_or xs k s).number ≡ s.number → (q : ℕ) → total_of (set xs k s) q ≡ update eqb (total_of xs) s.number (Some s.total) q
+  pub set_total : (xs : List (Slot M)) (k : ℕ) (s : Slot M) → apart xs ≡ true → k < length xs → (get_or xs k s).number ≡ s.number → (q : ℕ) → total_of (set xs k s) q ≡ written_at (total_of xs) s.number (Some s.total) q
   set_total [] k s a lt e q = absurd (omega arith)
   set_total (w ∷ xs) zero s a lt e q =
       ⊎_elim
@@ -123,7 +137,7 @@ module _ {M : Type 0} where
 
   -- the slot at `at` taken out: the last slot x goes into its place, where it is not the last itself
   pub taken_total : (ws : List (Slot M)) (x : Slot M) (at : ℕ) (s : Slot M) → apart (ws ++ (x ∷ [])) ≡ true → at < length (ws ++ (x ∷ [])) → s ≡ get_or (ws ++ (x ∷ [])) at s
-      → (q : ℕ) → total_of (set ws at x) q ≡ update eqb (total_of (ws ++ (x ∷ []))) s.number None q
+      → (q : ℕ) → total_of (set ws at x) q ≡ written_at (total_of (ws ++ (x ∷ []))) s.number None q
   taken_total [] x zero s a lt e q =
       let same : s.number ≡ x.number = ap (λ y. y.number) e in
       ⊎_elim (λ t. sym (cond-true _ _ _ t)) (λ f. sym (cond-false _ _ _ f ∙ cond-false _ _ _ (subst (λ n. eqb q n ≡ false) same f))) (cases_Bool (eqb q s.number))
@@ -134,7 +148,7 @@ module _ {M : Type 0} where
       let both = put_total ws x lack in
       let gone = sym (both s.number) ∙ subst (λ n. total_of (ws ++ (x ∷ [])) n ≡ None) same (others_lack w _ a) in
       ⊎_elim
-      (λ t. subst (λ n. update eqb (total_of ws) x.number (Some x.total) n ≡ None) (sym (eqb-true q s.number t)) gone ∙ sym (cond-true _ _ _ t))
+      (λ t. subst (λ n. written_at (total_of ws) x.number (Some x.total) n ≡ None) (sym (eqb-true q s.number t)) gone ∙ sym (cond-true _ _ _ t))
       (λ f. sym (both q) ∙ sym (cond-false _ _ _ f ∙ cond-false _ _ _ (subst (λ n. eqb q n ≡ false) (sym same) f)))
       (cases_Bool (eqb q s.number))
   taken_total (w ∷ ws) x (suc at) s a lt e q =

@@ -2,15 +2,15 @@ use Rattle.std.proofs.Common.{sym, refl, inl, inr}
 use Rattle.plan_text.proofs.Telling.{empty_text, some_text}
 use Rattle.plan_text.proofs.listening.hear_next.Goals as goal
 
-pub returns-then-is-empty : goal.returns-then-is-empty
-returns-then-is-empty g c =
+pub returns-then-is_empty : goal.returns-then-is_empty
+returns-then-is_empty g c =
     let asks = g.met.L.Listener.asks c.args.listener.now c.args.due c.requires in
-    ((c.args.due, asks, inl (empty_text c.args.text.now (sym c.if-is-empty.ensures), refl)), refl)
+    ((c.args.due, asks, inl (empty_text c.args.text.now (sym c.if-is_empty.ensures), refl)), refl)
 
-pub returns-in-default : goal.returns-in-default
-returns-in-default g c =
+pub returns-in_default : goal.returns-in_default
+returns-in_default g c =
     let asks = g.met.L.Listener.asks c.args.listener.now c.args.due c.requires in
-    ((c.args.due, asks, inr (inl (some_text c.args.text.now (sym c.if-is-empty.ensures), c.in-default.ensures, refl))), refl)
+    ((c.args.due, asks, inr (inl (some_text c.args.text.now (sym c.if-is_empty.ensures), c.in_default.ensures, refl))), refl)
 
 pub returns-in-Ok : goal.returns-in-Ok
 returns-in-Ok g c =

@@ -6,13 +6,13 @@ use Rattle.plan_text.proofs.Running.{lines_then}
 use Rattle.plan_text.proofs.Stopping.{stopped_early, rest_begins, ends_then}
 use Rattle.plan_text.proofs.reading.read_plan.Goals as goal
 
-pub returns-then-is-some : goal.returns-then-is-some
-returns-then-is-some c =
+pub returns-then-is_some : goal.returns-then-is_some
+returns-then-is_some c =
     let text = c.args.text.now in
     let first = c.listen-first.result in
     let after = c.listen-first.new.listener in
     let told = c.listen-first.ensures in
-    let some : is_some first.refusal ≡ true = sym c.if-is-some.ensures in
+    let some : is_some first.refusal ≡ true = sym c.if-is_some.ensures in
     let number : 0 + first.lines + 1 ≡ first.lines + 1 = omega arith in
     inl (
       head_heard after,

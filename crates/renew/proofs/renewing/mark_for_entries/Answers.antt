@@ -20,7 +20,7 @@ loop-junction-preserved g c =
     let mid = c.loop-junction.marks in
     let inv = c.loop-junction.invariant in
     let d : Desk g.row.M.Denot = record { totals = c.args.totals.now; came = c.args.came.now; waiting = c.args.waiting.now; settled = c.args.settled.now } in
-    let e : Desk g.row.M.Denot = record { totals = c.loop-junction.totals; came = c.loop-junction.branch; waiting = c.loop-junction.waiting; settled = c.loop-junction.settled } in
+    let e : Desk g.row.M.Denot = record { totals = c.loop-junction.totals; came = c.loop-junction.came; waiting = c.loop-junction.waiting; settled = c.loop-junction.settled } in
     elim c.if-is-entry.branch [ then-is-entry w ↦ (let last = w.mark-for-entry.new in let turn : (old : Marks) → Written hall n (FlaggedTo m p hall 0) old first → Written hall n (FlaggedTo m p hall (k + 1)) old last.marks = λ old h. entry_turn m p hall k n old mid last.marks (c.is-entry.ensures.0 w.if-is-entry.true) (inv.0 old h) w.mark-for-entry.ensures.marks in let f : Desk g.row.M.Denot = record { totals = last.totals; came = last.came; waiting = last.waiting; settled = last.settled } in rw (sym w.marks-is, sym w.totals-is, sym w.came-is, sym w.waiting-is, sym w.settled-is) at (both turn (past_then (junctions p) d e f inv.1 w.mark-for-entry.ensures.past))) | else-is-entry w ↦ (let turn : (old : Marks) → Written hall n (FlaggedTo m p hall 0) old first → Written hall n (FlaggedTo m p hall (k + 1)) old mid = λ old h. other_turn m p hall k n old mid (λ entry. both_ways c.is-entry.result w.if-is-entry.false (c.is-entry.ensures.1 entry)) (inv.0 old h) in rw (sym w.marks-is, sym w.totals-is, sym w.came-is, sym w.waiting-is, sym w.settled-is) at (both turn inv.1)) ]
 
 pub returns : goal.returns

@@ -42,7 +42,7 @@ loop-leg-preserved g c =
           let before = inv.4 st stands in
           let here = took.took st before.stands in
           let s = tabled m start c.args.totals.now c.args.came.now st in
-          let now-at = tabled m start c.loop-leg.totals c.loop-leg.branch st in
+          let now-at = tabled m start c.loop-leg.totals c.loop-leg.came st in
           let after = tabled m start c.take-leg.new.totals c.take-leg.new.came st in
           let passed = passed_over m (net m p) st u c.args.at s now-at c.loop-leg.from leg next.0
           (λ i low high v offer. next.2 i low high (offer_tail m p u v i offer)) before.taken in

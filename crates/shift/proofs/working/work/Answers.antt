@@ -15,7 +15,7 @@ loop-i-preserved g c =
     let sound = g.L.Layout.sound c.args.router.now.sheet.below in
     let p = g.L.Layout.meaning c.args.router.now.sheet.below in
     let there : Places = record { totals = length c.args.totals.now; came = length c.args.came.now; waiting = length c.args.waiting.now; settled = length c.args.settled.now; way = length c.args.way.now } in
-    let now-there : Places = record { totals = length c.loop-i.totals; came = length c.loop-i.branch; waiting = length c.loop-i.waiting; settled = length c.loop-i.settled; way = length c.loop-i.way } in
+    let now-there : Places = record { totals = length c.loop-i.totals; came = length c.loop-i.came; waiting = length c.loop-i.waiting; settled = length c.loop-i.settled; way = length c.loop-i.way } in
     let kept = c.loop-i.auto in
     let same : now-there ≡ there = λ i. record { totals = kept.totals i; came = kept.came i; waiting = kept.waiting i; settled = kept.settled i; way = kept.way i } in
     let turn = c.index-turns-i.result in

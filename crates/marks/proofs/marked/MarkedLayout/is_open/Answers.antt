@@ -3,14 +3,14 @@ use Rattle.marks.specs.Mark.{shown_leg, is_marked}
 use Rattle.layers.proofs.Relegging.{figure_made}
 use Rattle.marks.proofs.marked.MarkedLayout.is_open.Goals as goal
 
-pub returns-in-err-own : goal.returns-in-err-own
-returns-in-err-own g c =
+pub returns-in_err-own : goal.returns-in_err-own
+returns-in_err-own g c =
     let m = c.args.self.now in
     let p = g.L.Layout.meaning m.below in
     let passes : Bool = not (ltb m.hall p.halls) || is_marked m.marks.now m.hall c.args.leg in
     let leg-seen = shown_leg m.marks.now p.halls m.hall in
-    let seen = figure_made leg-seen (λ l. l.is-open) (λ l. l.is-open) (λ own. own && passes) p.legs c.args.leg (λ l. refl) in
-    c.from-residual.ensures ∙ seen None c.in-err-own.ensures
+    let seen = figure_made leg-seen (λ l. l.is_open) (λ l. l.is_open) (λ own. own && passes) p.legs c.args.leg (λ l. refl) in
+    c.from_residual.ensures ∙ seen None c.in_err-own.ensures
 
 pub returns : goal.returns
 returns g c =
@@ -18,6 +18,6 @@ returns g c =
     let p = g.L.Layout.meaning m.below in
     let passes : Bool = not (ltb m.hall p.halls) || is_marked m.marks.now m.hall c.args.leg in
     let leg-seen = shown_leg m.marks.now p.halls m.hall in
-    let seen = figure_made leg-seen (λ l. l.is-open) (λ l. l.is-open) (λ own. own && passes) p.legs c.args.leg (λ l. refl) in
-    let answer = seen (Some c.in-ok-own.own_val) c.in-ok-own.ensures in
+    let seen = figure_made leg-seen (λ l. l.is_open) (λ l. l.is_open) (λ own. own && passes) p.legs c.args.leg (λ l. refl) in
+    let answer = seen (Some c.in_ok-own.own) c.in_ok-own.ensures in
     search rules

@@ -24,7 +24,10 @@ invariant_of-self g c =
     let queue = c.args.self.now in
     let s : Slot g.row.M.Denot = record { total = c.args.total; number = c.args.number } in
     let found = c.in-Some.ensures in
-    (simp length-set queue.fits, (lowered_apart queue.slots.now queue.used queue.fits queue.distinct c.in-Some.at s found.0 found.1, tt))
+    record {
+      fits = simp length-set queue.fits;
+      distinct = lowered_apart queue.slots.now queue.used queue.fits queue.distinct c.in-Some.at s found.0 found.1;
+    }
 
 pub returns : goal.returns
 returns g c =

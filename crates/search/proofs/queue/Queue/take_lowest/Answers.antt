@@ -12,7 +12,10 @@ invariant_of-self g c =
     let first = c.lowest-at.ensures in
     let s = get_or xs at c.index-self-at.result in
     let x = get_or xs (n - 1) c.index-self-last.result in
-    (simp length-set (omega arith), (removed_apart xs n queue.fits queue.distinct at s x first.0 (ap (get_or xs at) c.index-self-at.is) (ap (get_or xs (n - 1)) c.index-self-last.is), tt))
+    record {
+      fits = simp length-set (omega arith);
+      distinct = removed_apart xs n queue.fits queue.distinct at s x first.0 (ap (get_or xs at) c.index-self-at.is) (ap (get_or xs (n - 1)) c.index-self-last.is);
+    }
 
 pub returns : goal.returns
 returns g c =
