@@ -491,9 +491,12 @@ fn padded(heap: Global, size: usize) -> Result<Vec<u8>, Fail> {
 fn longest(rt: HostRuntime) -> Result<(), Fail> {
     let mut out = Vec::new(rt.alloc());
     answer(&mut out, &padded(rt.alloc(), 65536)?)?;
-    assert_eq!(rt; out.as_slice(), b"plan=0,0,1\nrefused=12\nfigure=6\n");
+    assert_eq!(rt;
+        out.as_slice(),
+        b"plan=0,0,1\nrefused=12\nfigure=6\n".as_slice()
+    );
     let mut out = Vec::new(rt.alloc());
     answer(&mut out, &padded(rt.alloc(), 65537)?)?;
-    assert_eq!(rt; out.as_slice(), b"refused=13\nfigure=65536\n");
+    assert_eq!(rt; out.as_slice(), b"refused=13\nfigure=65536\n".as_slice());
     Ok(())
 }
