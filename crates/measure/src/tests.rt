@@ -104,13 +104,13 @@ fn order_of_clearance(rt: HostRuntime) {
 #[test]
 fn printing(rt: HostRuntime) -> Result<(), Fail> {
     let time = Tenths { tenths: 300 };
-    assert_eq!(rt; time.to_string(rt.alloc())?, "300");
+    assert_eq!(rt; time.to_string(rt.alloc())?.as_str(), "300");
     let clearance = Headroom { centimetres: 70 };
-    assert_eq!(rt; clearance.to_string(rt.alloc())?, "70");
+    assert_eq!(rt; clearance.to_string(rt.alloc())?.as_str(), "70");
     let pair = TimeTurns {
         time: 300,
         turns: 0,
     };
-    assert_eq!(rt; pair.to_string(rt.alloc())?, "300,0");
+    assert_eq!(rt; pair.to_string(rt.alloc())?.as_str(), "300,0");
     Ok(())
 }

@@ -1,6 +1,6 @@
 -- Of numbers below n, at most n are all apart. Assumes nothing.
 use Rattle.std.proofs.Common.{◌≡◌, ℕ, zero, suc, ◌<◌, ◌≤◌, Bool, true, false, cond, ◌⊎◌, List, [], ◌∷◌, ◌++◌, length, sym, refl, subst, inl, inr, ⊎_elim, arith}
-use Rattle.std.specs.List.{ContainsAt as Has, AllByRecursion as All}
+use Rattle.std.specs.List.{ContainsAt as Has, AllByRecursion}
 use Rattle.std.proofs.ByRecursion.{has_append_left, has_append_right, has_push, has_push_cases}
 use Rattle.search.specs.Apart.{Apart}
 use Rattle.walks.proofs.Choosing.{Whether, has?, has_none}
@@ -43,7 +43,7 @@ unfolding says
 says_so (inl a) e = a
 says_so (inr n) e = let z : ◌≡◌ {A = ℕ} 0 1 = cc in absurd (let v : ⊥ = omega arith in v)
 
-at_most_counted : (xs : List ℕ) (n : ℕ) → Apart xs → All (λ x. x < n) xs → length xs ≤ count (stands xs) n
+at_most_counted : (xs : List ℕ) (n : ℕ) → Apart xs → AllByRecursion (λ x. x < n) xs → length xs ≤ count (stands xs) n
 unfolding stands
 at_most_counted [] n a b = omega arith
 at_most_counted (x ∷ xs) n a b =
@@ -53,5 +53,5 @@ at_most_counted (x ∷ xs) n a b =
     x (says_false (has? xs x) a.0) (says_true (has? (x ∷ xs) x) (has_first x xs)) n b.0 in
     omega arith
 
-pub few : (xs : List ℕ) (n : ℕ) → Apart xs → All (λ x. x < n) xs → length xs ≤ n
+pub few : (xs : List ℕ) (n : ℕ) → Apart xs → AllByRecursion (λ x. x < n) xs → length xs ≤ n
 few xs n a b = let h = at_most_counted xs n a b in let k = count_few (stands xs) n in omega arith

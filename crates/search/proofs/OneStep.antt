@@ -1,6 +1,6 @@
 -- One junction is settled, by the tables and the queue. Assumes nothing.
 use Rattle.std.proofs.Common.{◌≡◌, ℕ, zero, suc, ◌+◌, ◌<◌, ◌≤◌, true, false, eqb, ◌≢◌, ◌⊎◌, List, [], ◌∷◌, ◌++◌, length, Some, None, Option, sym, refl, ap, ◌∙◌, subst, inl, inr, ⊎_elim, arith}
-use Rattle.std.specs.List.{ContainsAt as Has, AllByRecursion as All}
+use Rattle.std.specs.List.{ContainsAt as Has, AllByRecursion}
 use Rattle.std.specs.Map.{update}
 use Rattle.std.proofs.ByRecursion.{has_append_left, has_push, has_push_cases, All-push}
 use Rattle.std.proofs.lemmas.List.{length_push}
@@ -68,7 +68,7 @@ module _ {T : Type 0} {m : Scale T} (laws : Lawful m) (g : Net T) (start : ℕ) 
     pub longer_apart : Apart longer
     longer_apart = apart_push st u running.apart unsettled
 
-    pub longer_exist : All (λ v. v < n) longer
+    pub longer_exist : AllByRecursion (λ v. v < n) longer
     longer_exist = All-push (λ v. v < n) st u running.exist exists
 
     -- there is a place for it in the settled table

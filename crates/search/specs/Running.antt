@@ -1,6 +1,6 @@
 -- A search that is under way: its tables and its queue hold a state that the rule leads to. Assumes nothing.
 use Rattle.std.specs.Prelude.{◌≡◌, ℕ, ◌<◌, List, length, Option}
-use Rattle.std.specs.List.{AllByRecursion as All}
+use Rattle.std.specs.List.{AllByRecursion}
 use Rattle.measure.specs.Scale.{Scale}
 use Rattle.walks.specs.Net.{Net}
 use Rattle.walks.specs.Search.{State, Arrived, Runs, Searched}
@@ -18,4 +18,4 @@ pub record Running {T : Type 0} (m : Scale T) (g : Net T) (start : ℕ) (goal : 
   pub not_arrived : ¬ Arrived goal (tabled m start totals came st)
   -- no junction is settled twice
   pub apart : Apart st
-  pub exist : All (λ v. v < n) st
+  pub exist : AllByRecursion (λ v. v < n) st

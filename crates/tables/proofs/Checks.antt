@@ -1,7 +1,7 @@
 -- What holds of a search that is not refused before it begins. Assumes nothing.
 use Rattle.std.proofs.Common.{◌≡◌, ℕ, suc, ◌<◌, ◌≤◌, Bool, true, false, ltb, leb, List, [], ◌∷◌, Some, None, Option, unwrap_or, sym, refl, ap, ◌∙◌, arith}
 use Rattle.std.specs.Option.{option_map}
-use Rattle.std.specs.List.{AllByRecursion as All}
+use Rattle.std.specs.List.{AllByRecursion}
 use Rattle.std.proofs.lemmas.Bool.{ltb-true, leb-true}
 use Rattle.layout.specs.Refused.{refuse_unless}
 use Rattle.layout.specs.declared.refusal.Refusal.{Refusal}
@@ -15,7 +15,7 @@ passed true r later none = (refl, none)
 passed false r later none = let z : ◌≡◌ {A = ℕ} 0 1 = cc in absurd (let w : ⊥ = omega arith in w)
 
 -- each table has a place for every junction
-long_tables : (n place : ℕ) (sizes : List ℕ) → short_table n place sizes ≡ None → All (λ size. n ≤ size) sizes
+long_tables : (n place : ℕ) (sizes : List ℕ) → short_table n place sizes ≡ None → AllByRecursion (λ size. n ≤ size) sizes
 long_tables n place [] none = tt
 long_tables n place (size ∷ sizes) none =
     let here = passed (leb n size) _ (short_table n (suc place) sizes) none in
@@ -32,7 +32,7 @@ module _ (n start : ℕ) (goal : Option ℕ) (sizes : List ℕ) (none : due n st
   pub start_there : start < n
   start_there = ltb-true start n at_start.0
 
-  pub tables_long : All (λ size. n ≤ size) sizes
+  pub tables_long : AllByRecursion (λ size. n ≤ size) sizes
   tables_long = long_tables n 1 sizes (passed _ _ _ at_start.1).1
 
 pub goal_there : (n start goal : ℕ) (sizes : List ℕ) → due n start (Some goal) sizes ≡ None → goal < n

@@ -4,7 +4,7 @@ use Rattle.std.specs.Str.Parse.{AllDigits, digits_value, digits_value_after}
 use Rattle.std.specs.Char.{digit_value}
 use Rattle.std.proofs.lemmas.Str.Parse.{IsNumeralModel, numerals_by_value, tells_digits, digits_value_short, digit_at}
 use Rattle.std.proofs.ByRecursion.{All-from_get_or}
-use Rattle.std.specs.List.{AllByRecursion as All}
+use Rattle.std.specs.List.{AllByRecursion}
 use Rattle.std.proofs.lemmas.Fmt.{decimal_digit, decimal-digits_value, digits_decimal, decimal_nonempty, length-decimal-le, first_decimal, decimal_injective}
 use Rattle.std.proofs.lemmas.Int.Digits.{digits_more}
 use Rattle.std.proofs.lemmas.List.{at_drop_more, at_drop_all, take_all}
@@ -89,6 +89,6 @@ read_all start ds i n past read =
     (subst (AllDigits 10) (take_all i ds past) read.digits, sym (at_drop_all (digits_value_after 10 n) ds i past) ∙ read.same)
 
 -- digits are plain characters
-pub plain_decimal : (n : ℕ) → Small n → All Plain (decimal n)
+pub plain_decimal : (n : ℕ) → Small n → AllByRecursion Plain (decimal n)
 plain_decimal n small =
     All-from_get_or Plain (decimal n) 0 (λ i inside. inl (digit_at (decimal n) i (digits_decimal own n (wide n small)) inside))

@@ -1,6 +1,6 @@
 -- The numbers and the letter that a line has left.
 use Rattle.std.proofs.Common.{◌≡◌, ℕ, ◌+◌, ◌<◌, ◌≤◌, ◌⊎◌, List, [], ◌∷◌, ◌++◌, length, get_or, take, drop, set, Some, None, decimal, Option, sym, refl, ap, ◌∙◌, subst, inl, inr, ⊎_elim, append_assoc, append-nil, arith, MatchOption}
-use Rattle.std.specs.List.{AllByRecursion as All}
+use Rattle.std.specs.List.{AllByRecursion}
 use Rattle.std.proofs.lemmas.List.{take_more_set, take_more, drop_more, drop_all, take_all, length-set}
 use Rattle.tokens.specs.declared.line.Due.{Due}
 use Rattle.tokens.specs.declared.line.Line.{Line}
@@ -66,8 +66,8 @@ letter_taken line after part None (due, plain, inr (is, next)) last told = λ c 
 letter_taken line after part (Some c) (due, plain, inr (is, next)) last told = (due, (told.0, is ∙ told.1))
 
 -- a letter is a plain value
-letter_plain : (value : List ℕ) (c : ℕ) → OneLetter value c → All Plain value
-letter_plain value c (small, is) = subst (All Plain) (sym is) (inr small, tt)
+letter_plain : (value : List ℕ) (c : ℕ) → OneLetter value c → AllByRecursion Plain value
+letter_plain value c (small, is) = subst (AllByRecursion Plain) (sym is) (inr small, tt)
 
 -- line with all its tokens taken
 abbrev spent : Line → Line

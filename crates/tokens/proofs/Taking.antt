@@ -1,6 +1,6 @@
 -- What the token that is due can be, and that a line has at most one next token.
 use Rattle.std.proofs.Common.{◌≡◌, ℕ, ◌+◌, ◌<◌, ◌≤◌, ◌⊎◌, List, [], ◌∷◌, ◌++◌, length, get_or, take, drop, sym, refl, ap, ◌∙◌, subst, inl, inr, ⊎_elim, arith}
-use Rattle.std.specs.List.{AllByRecursion as All}
+use Rattle.std.specs.List.{AllByRecursion}
 use Rattle.std.proofs.ByRecursion.{All-weaker}
 use Rattle.std.proofs.lemmas.List.{take-append-drop, drop_more, take_all}
 use Rattle.tokens.specs.declared.line.Class.{Class}
@@ -32,7 +32,7 @@ value_not_nothing d p q = let z : ◌≡◌ {A = ℕ} 0 1 = cc in omega arith
 plain_not_comma : (b : ℕ) → Plain b → b ≡ 44 → ⊥
 plain_not_comma b plain e = ⊎_elim (λ digit. omega arith) (λ letter. omega arith) plain
 
-pub plain_lacks_comma : (part : List ℕ) → All Plain part → Lacks 44 part
+pub plain_lacks_comma : (part : List ℕ) → AllByRecursion Plain part → Lacks 44 part
 plain_lacks_comma part plain = All-weaker Plain (λ b. b ≡ 44 → ⊥) plain_not_comma part plain
 
 -- a line without `=` gives no key
@@ -46,13 +46,13 @@ spent_stuck line due (Key key) after takes = key_not_nothing _ takes.0 due
 spent_stuck line due (Value part) after takes = value_not_nothing _ takes.0 due
 
 -- a stray character stands in any first part
-stray_in_part : (front : List ℕ) (odd : ℕ) (rest part more : List ℕ) → All Plain front → (Plain odd → ⊥) → (odd ≡ 44 → ⊥) → All Plain part → front ++ (odd ∷ rest) ≡ part ++ (44 ∷ more) → ⊥
+stray_in_part : (front : List ℕ) (odd : ℕ) (rest part more : List ℕ) → AllByRecursion Plain front → (Plain odd → ⊥) → (odd ≡ 44 → ⊥) → AllByRecursion Plain part → front ++ (odd ∷ rest) ≡ part ++ (44 ∷ more) → ⊥
 stray_in_part [] odd rest [] more ff np nc pp e = nc (cc)
 stray_in_part [] odd rest (p ∷ part) more ff np nc pp e = np (let same : p ≡ odd = cc in subst Plain same pp.0)
 stray_in_part (f ∷ front) odd rest [] more ff np nc pp e = plain_not_comma f ff.0 (cc)
 stray_in_part (f ∷ front) odd rest (p ∷ part) more ff np nc pp e = stray_in_part front odd rest part more ff.1 np nc pp.1 (cc)
 
-stray_not_plain : (front : List ℕ) (odd : ℕ) (rest : List ℕ) → (Plain odd → ⊥) → All Plain (front ++ (odd ∷ rest)) → ⊥
+stray_not_plain : (front : List ℕ) (odd : ℕ) (rest : List ℕ) → (Plain odd → ⊥) → AllByRecursion Plain (front ++ (odd ∷ rest)) → ⊥
 stray_not_plain [] odd rest np all = np all.0
 stray_not_plain (f ∷ front) odd rest np all = stray_not_plain front odd rest np all.1
 
@@ -62,7 +62,7 @@ stray_stuck line due stray (Key key) after takes = key_not_value _ takes.0 due
 stray_stuck line due stray (Value part) after takes =
     ⊎_elim
     (λ cut. stray_in_part _ _ _ _ _ stray.plain stray.not_plain stray.not_comma takes.1 (sym stray.whole ∙ cut.0.whole))
-    (λ last. stray_not_plain _ _ _ stray.not_plain (subst (All Plain) (sym last.0 ∙ stray.whole) takes.1))
+    (λ last. stray_not_plain _ _ _ stray.not_plain (subst (AllByRecursion Plain) (sym last.0 ∙ stray.whole) takes.1))
     takes.2
 
 -- where digits and letters end at a comma, it is the first one
@@ -70,7 +70,7 @@ pub comma_first : (bytes : List ℕ) (n : ℕ) → PlainUpTo bytes n → n < len
 comma_first bytes n h inside = record { within = inside; here = h.comma inside; before = plain_lacks_comma _ h.plain }
 
 -- a character that is no digit, letter or comma, after digits and letters
-pub stray_at : (bytes : List ℕ) (n : ℕ) → n < length bytes → All Plain (take n bytes) → (Plain (get_or bytes n 0) → ⊥) → (get_or bytes n 0 ≡ 44 → ⊥) → Stray bytes
+pub stray_at : (bytes : List ℕ) (n : ℕ) → n < length bytes → AllByRecursion Plain (take n bytes) → (Plain (get_or bytes n 0) → ⊥) → (get_or bytes n 0 ≡ 44 → ⊥) → Stray bytes
 stray_at bytes n inside plain np nc = record {
   front = take n bytes;
   odd = get_or bytes n 0;
@@ -89,7 +89,7 @@ plain_from_class Comma byte is either = absurd (let z : ◌≡◌ {A = ℕ} 0 1 
 plain_from_class Other byte is either = absurd (let z : ◌≡◌ {A = ℕ} 0 1 = ⊎_elim (λ e. cc) (λ e. cc) either in omega arith)
 
 -- a value that reaches to the end of the line is not cut off at a comma
-cut_not_last : (line : List ℕ) (part rest : List ℕ) → Cut 44 line part rest → All Plain line → ⊥
+cut_not_last : (line : List ℕ) (part rest : List ℕ) → Cut 44 line part rest → AllByRecursion Plain line → ⊥
 cut_not_last line part rest cut plain = lacks_not_cut 44 line part rest (plain_lacks_comma line plain) cut
 
 -- what is left after a value, as far as it matters
@@ -102,8 +102,8 @@ pub one_value : (line : Line) (p q : Bytes) (one other : Line) → Takes line (V
 one_value line p q one other (_, pp, inl (c, d)) (_, qq, inl (e, f)) =
     let same = one_cut 44 (left line) p.now q.now (left one) (left other) c e in
     (same.0, record { due = d ∙ sym f; bytes = λ _. same.1 })
-one_value line p q one other (_, pp, inl (c, d)) (_, qq, inr (e, f)) = absurd (cut_not_last (left line) _ _ c (subst (All Plain) (sym e) qq))
-one_value line p q one other (_, pp, inr (c, d)) (_, qq, inl (e, f)) = absurd (cut_not_last (left line) _ _ e (subst (All Plain) (sym c) pp))
+one_value line p q one other (_, pp, inl (c, d)) (_, qq, inr (e, f)) = absurd (cut_not_last (left line) _ _ c (subst (AllByRecursion Plain) (sym e) qq))
+one_value line p q one other (_, pp, inr (c, d)) (_, qq, inl (e, f)) = absurd (cut_not_last (left line) _ _ e (subst (AllByRecursion Plain) (sym c) pp))
 one_value line p q one other (_, pp, inr (c, d)) (_, qq, inr (e, f)) =
     (sym c ∙ e, record { due = d ∙ sym f; bytes = λ v. absurd (value_not_nothing _ v d) })
 

@@ -1,10 +1,10 @@
 -- How a text is cut at a byte: into lines at byte 10, a line at `=`, values at commas.
 use Rattle.std.specs.Prelude.{◌≡◌, ℕ, ◌+◌, ◌<◌, ◌≤◌, List, ◌∷◌, ◌++◌, length, take, ◌≢◌, slice_index_or}
-use Rattle.std.specs.List.{AllByRecursion as All}
+use Rattle.std.specs.List.{AllByRecursion}
 
 -- the byte stands nowhere in bytes
 abbrev pub Lacks : ℕ → List ℕ → Type 0
-Lacks byte bytes = All (λ b. b ≢ byte) bytes
+Lacks byte bytes = AllByRecursion (λ b. b ≢ byte) bytes
 
 -- the byte first stands at place, counted from 0
 pub record FirstAt (byte : ℕ) (bytes : List ℕ) (place : ℕ) : Type 0 where

@@ -1,7 +1,7 @@
 -- How the tokens of a line follow one another.
 use Rattle.std.specs.Prelude.{◌≡◌, ℕ, ◌<◌, ◌≤◌, ◌⊎◌, List, [], ◌∷◌, ◌++◌, length, take, Some, None, Option, ◌≢◌, slice_index}
 use Rattle.std.specs.Borrow.{Bor}
-use Rattle.std.specs.List.{AllByRecursion as All}
+use Rattle.std.specs.List.{AllByRecursion}
 use Rattle.std.specs.Int.{IsInRange}
 use Rattle.tokens.specs.declared.line.Class.{Class}
 use Rattle.tokens.specs.declared.line.Class.TheVariants.{Digit, Comma, Letter, Other}
@@ -24,7 +24,7 @@ left line = line.rest.now
 abbrev pub Takes : Line → Token → Line → Type 0
 Takes before (Key key) after = (before.due ≡ Due.Key) × Keyed (left before) key.now (left after) × (after.due ≡ Due.Value)
 Takes before (Value part) after =
-    (before.due ≡ Due.Value) × All Plain part.now × ((Cut 44 (left before) part.now (left after) × (after.due ≡ Due.Value)) ⊎ ((left before ≡ part.now) × (after.due ≡ Due.Nothing)))
+    (before.due ≡ Due.Value) × AllByRecursion Plain part.now × ((Cut 44 (left before) part.now (left after) × (after.due ≡ Due.Value)) ⊎ ((left before ≡ part.now) × (after.due ≡ Due.Nothing)))
 
 -- line has no next token
 abbrev pub Stuck : Line → Type 0
@@ -57,7 +57,7 @@ OfClass Other byte = (Plain byte → ⊥) × (byte ≢ 44)
 -- the first n bytes are digits and letters, and a comma or the end comes after them
 pub record PlainUpTo (bytes : List ℕ) (n : ℕ) : Type 0 where
   pub within : n ≤ length bytes
-  pub plain : All Plain (take n bytes)
+  pub plain : AllByRecursion Plain (take n bytes)
   pub comma : n < length bytes → slice_index bytes n ≡ 44
 
 -- a character that is no digit, letter or comma stands in bytes, and only digits and letters before it
@@ -66,6 +66,6 @@ pub record Stray (bytes : List ℕ) : Type 0 where
   pub odd : ℕ
   pub rest : List ℕ
   pub whole : bytes ≡ front ++ (odd ∷ rest)
-  pub plain : All Plain front
+  pub plain : AllByRecursion Plain front
   pub not_plain : Plain odd → ⊥
   pub not_comma : odd ≡ 44 → ⊥

@@ -1,7 +1,7 @@
 -- What a value writes: numbers with a comma between, or one letter.
 use Rattle.std.specs.Prelude.{◌≡◌, ℕ, ◌<◌, ◌⊎◌, List, [], ◌∷◌, ◌++◌, decimal}
 use Rattle.std.specs.Int.{IsInRange}
-use Rattle.std.specs.List.{AllByRecursion as All}
+use Rattle.std.specs.List.{AllByRecursion}
 
 -- a digit or a small letter, a to z
 abbrev pub Plain : ℕ → Type 0
@@ -23,7 +23,7 @@ written n (m ∷ more) = decimal n ++ (44 ∷ written m more)
 -- value writes the numbers ns, of which there is one at least
 abbrev pub Numbers : List ℕ → List ℕ → Type 0
 Numbers value [] = ⊥
-Numbers value (n ∷ ns) = All Small (n ∷ ns) × (value ≡ written n ns)
+Numbers value (n ∷ ns) = AllByRecursion Small (n ∷ ns) × (value ≡ written n ns)
 
 -- value is the one small letter
 abbrev pub OneLetter : List ℕ → ℕ → Type 0

@@ -9,7 +9,7 @@ invariant_of-self g c =
     let few = (g.L.Layout.sound d.below).few_legs in
     let low : c.args.leg < 512 = omega (arith, few) in
     let class_fits = sym c.if-not-class_fits.ensures in
-    let clearance_fits = sym c.if-not-clearance_fits.ensures in 
+    let clearance_fits = sym c.if-not-clearance_fits.ensures in
     record {
       wide = figured_wide d.sheet c.args.leg c.args.class c.args.clearance d.wide;
       fit = figured_fit d.sheet c.args.leg c.args.class c.args.clearance d.wide d.fit low class_fits clearance_fits;
