@@ -88,8 +88,9 @@ fn tell<L: Layout, M: Measure>(
         return Err(Refusal::NoWay(count as u32));
     }
     let legs = trace_way(layout, came, settled, count, goal, way);
+    let place = goal as usize;
     Ok(Found {
-        total: totals[goal as usize],
+        total: totals[place],
         settled: count as u32,
         legs: legs as u32,
     })

@@ -59,7 +59,7 @@ returns g c =
     let totals = c.args.totals.now in
     let came = c.args.came.now in
     let settled = take c.args.count c.args.settled.now in
-    let x = c.index-totals-goal.result in
+    let x = c.index-totals-place.result in
     let has-by : (tabled m c.args.start (take (junctions p) totals) (take (junctions p) came) settled).total c.args.goal ≡ Some (get_or totals c.args.goal x) =
     elim c.else-goal-start.branch [
       | else-goal-start-via-then-goal-start+else-came-goal w ↦
@@ -67,7 +67,7 @@ returns g c =
       | else-goal-start-via-else-goal-start w ↦
           total_at_start laws p c.args.start c.args.goal totals came settled c.requires.came c.requires.goal c.requires.searched x c.requires.totals w.if-goal-start.false
     ] in
-    let has : (tabled m c.args.start (take (junctions p) totals) (take (junctions p) came) settled).total c.args.goal ≡ Some x = has-by ∙ ap Some (sym c.index-totals-goal.is) in
+    let has : (tabled m c.args.start (take (junctions p) totals) (take (junctions p) came) settled).total c.args.goal ≡ Some x = has-by ∙ ap Some (sym c.index-totals-place.is) in
     let h = with_total laws p c.args.start c.args.goal totals came settled c.requires.came c.requires.goal c.requires.searched x has in
     let told = c.trace_way-legs.ensures in
     let legs = c.trace_way-legs.result in

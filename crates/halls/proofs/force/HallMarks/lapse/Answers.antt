@@ -2,11 +2,11 @@ use Rattle.std.proofs.Common.{sym, arith}
 use Rattle.halls.specs.Force.{lapsing}
 use Rattle.halls.proofs.Counted.{count_le}
 use Rattle.halls.proofs.Striking.{turn_yes, turn_no, all_turns}
-use Rattle.halls.proofs.force.HallMarks.lapse.Goals.{then-is-struck, else-is-struck}
+use Rattle.halls.proofs.force.HallMarks.lapse.Goals.{then-is_struck, else-is_struck}
 use Rattle.halls.proofs.force.HallMarks.lapse.Goals as goal
 
-pub overflow-add-count : goal.overflow-add-count
-overflow-add-count c =
+pub overflow_add-count : goal.overflow_add-count
+overflow_add-count c =
     let few = count_le c.loop-hall.hall (lapsing c.args.self.now c.args.strikes) in
     let counted = c.loop-hall.invariant.0 in
     omega arith
@@ -16,7 +16,7 @@ loop-hall-preserved c =
     let s = c.args.strikes in
     let old = c.args.self.now in
     let i = c.loop-hall.hall in
-    elim c.if-is-struck.branch [ then-is-struck w ↦ rw (sym w.self-is, sym w.count_is) at (turn_yes s old c.loop-hall.self w.lapse-hall.new.self i c.loop-hall.count c.loop-hall.invariant (sym w.if-is-struck.ensures) w.lapse-hall.ensures) | else-is-struck w ↦ rw (sym w.self-is, sym w.count_is) at (turn_no s old c.loop-hall.self i c.loop-hall.count c.loop-hall.invariant (sym w.if-is-struck.ensures)) ]
+    elim c.if-is_struck.branch [ then-is_struck w ↦ rw (sym w.self-is, sym w.count_is) at (turn_yes s old c.loop-hall.self w.lapse_hall.new.self i c.loop-hall.count c.loop-hall.invariant (sym w.if-is_struck.ensures) w.lapse_hall.ensures) | else-is_struck w ↦ rw (sym w.self-is, sym w.count_is) at (turn_no s old c.loop-hall.self i c.loop-hall.count c.loop-hall.invariant (sym w.if-is_struck.ensures)) ]
 
 pub returns : goal.returns
 returns c =
