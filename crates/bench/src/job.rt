@@ -11,8 +11,8 @@ use search::Slot;
 #[derive(Clone, Copy)]
 enum Kind {
     Time,
-    Headroom,
-    TimeTurns,
+    Clearance,
+    TimeThenTurns,
 }
 
 // So many rounds of searches over one plant by one measure.

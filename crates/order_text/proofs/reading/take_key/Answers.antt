@@ -14,11 +14,11 @@ returns-in_err-word c =
     let none = subst Keyless c.new-values.ensures.0 keyless in
     simp c.from_residual.ensures (λ k value keyed. lacks_not_cut 61 c.args.line.now (spelt k) value none keyed)
 
-pub returns-in_err-named : goal.returns-in_err-named
-returns-in_err-named c =
+pub returns-in_err-named-in-Key : goal.returns-in_err-named-in-Key
+returns-in_err-named-in-Key c =
     let new = c.new-values.result in
     let after = c.next_token.new.self in
     let taken = subst (λ (t : Token). Takes new t after) c.in-Key.is c.in_ok-word.ensures in
     let here = subst (λ (l : List ℕ). Keyed l c.in-Key.word.now (left after)) c.new-values.ensures.0 taken.1 in
-    let other = c.in_err-named.ensures in
-    simp c.from_residual-in_err-named.ensures (λ k value keyed. other k (one_cut 61 c.args.line.now c.in-Key.word.now (spelt k) (left after) value here keyed).0)
+    let other = c.in_err-named-in-Key.ensures in
+    simp c.from_residual-in_err-named-in-Key.ensures (λ k value keyed. other k (one_cut 61 c.args.line.now c.in-Key.word.now (spelt k) (left after) value here keyed).0)

@@ -16,7 +16,7 @@ loop-hall-preserved c =
     let s = c.args.strikes in
     let old = c.args.self.now in
     let i = c.loop-hall.hall in
-    elim c.if-is_struck.branch [ then-is_struck w ↦ rw (sym w.self-is, sym w.count_is) at (turn_yes s old c.loop-hall.self w.lapse_hall.new.self i c.loop-hall.count c.loop-hall.invariant (sym w.if-is_struck.ensures) w.lapse_hall.ensures) | else-is_struck w ↦ rw (sym w.self-is, sym w.count_is) at (turn_no s old c.loop-hall.self i c.loop-hall.count c.loop-hall.invariant (sym w.if-is_struck.ensures)) ]
+    elim c.if-is_struck.branch [ then-is_struck w ↦ rw (sym w.self-is, sym w.count-is) at (turn_yes s old c.loop-hall.self w.lapse_hall.new.self i c.loop-hall.count c.loop-hall.invariant (sym w.if-is_struck.ensures) w.lapse_hall.ensures) | else-is_struck w ↦ rw (sym w.self-is, sym w.count-is) at (turn_no s old c.loop-hall.self i c.loop-hall.count c.loop-hall.invariant (sym w.if-is_struck.ensures)) ]
 
 pub returns : goal.returns
 returns c =
