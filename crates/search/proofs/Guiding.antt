@@ -1,9 +1,9 @@
 -- From what a search left in its tables to what it answers. Assumes nothing.
-use Rattle.std.proofs.Common.{◌≡◌, ℕ, zero, suc, ◌<◌, ◌≤◌, true, false, cond, eqb, ltb, ◌≢◌, ◌⊎◌, List, [], ◌∷◌, ◌++◌, length, get_or, take, drop, Some, None, Ok, Err, Option, Result, sym, refl, ap, ◌∙◌, subst, inl, inr, ⊎_elim, arith}
+use Rattle.std.proofs.Common.{◌≡◌, ℕ, zero, suc, ◌<◌, ◌≤◌, Bool, true, false, cond, eqb, ltb, ◌≢◌, ◌⊎◌, List, [], ◌∷◌, ◌++◌, length, get_or, take, drop, Some, None, Ok, Err, Option, Result, sym, refl, ap, ◌∙◌, subst, inl, inr, ⊎_elim, arith}
 use Rattle.std.specs.List.{ContainsAt as Has}
 use Rattle.std.proofs.lemmas.List.{get_or-take, get_or_default, length-take-le}
 use Rattle.std.proofs.ByRecursion.{has_append_right, has_append_left, has_push}
-use Rattle.std.proofs.lemmas.Bool.{lt-ltb, cases_eq, eq-eqb, ne_eqb}
+use Rattle.std.proofs.lemmas.Bool.{lt-ltb, ltb-true, cases_eq, eq-eqb, ne_eqb}
 use Rattle.layout.specs.declared.refusal.Refusal.{Refusal}
 use Rattle.measure.specs.Scale.{Scale, Lawful}
 use Rattle.layout.specs.Plant.{Plant, Sound}
@@ -170,3 +170,14 @@ none_due p start goal d way start_in goal_in sizes =
     ap (λ b. refuse_unless b (NoJunction 1) (refuse_unless (ltb goal (junctions p)) (NoJunction 2) sizes_of)) (lt-ltb start (junctions p) start_in)
     ∙ ap (λ b. refuse_unless b (NoJunction 2) sizes_of) (lt-ltb goal (junctions p) goal_in)
     ∙ sizes
+
+-- a check that refuses nothing is passed, and so are those after it
+passed : (b : Bool) (r : Refusal) (later : Option Refusal) → refuse_unless b r later ≡ None → (b ≡ true) × (later ≡ None)
+passed true r later none = (refl, none)
+passed false r later none = let z : ◌≡◌ {A = ℕ} 0 1 = cc in absurd (let w : ⊥ = omega arith in w)
+
+-- a search that is not refused before it begins has a goal that exists
+pub goal_there : {T : Type 0} (p : Plant) (start goal : ℕ) (d : Desk T) (way : List ℕ) → search_due p start goal d way ≡ None → goal < junctions p
+goal_there p start goal d way none =
+    let later = (passed (ltb start (junctions p)) (NoJunction 1) _ none).1 in
+    ltb-true goal (junctions p) (passed (ltb goal (junctions p)) (NoJunction 2) _ later).0

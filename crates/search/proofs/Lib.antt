@@ -14,3 +14,4 @@ pub mod Ending
 pub mod Earlier
 pub mod Tails
 pub mod Guiding
+pub mod Telling

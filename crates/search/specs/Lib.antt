@@ -8,3 +8,4 @@ pub mod Stepped
 pub mod Explored
 pub mod Traces
 pub mod Answered
+pub mod Counted

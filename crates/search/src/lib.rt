@@ -14,5 +14,5 @@ mod tracing;
 mod way;
 
 pub use found::Found;
-pub use searching::{explore, search};
+pub use searching::{check_tables, explore, search};
 pub use slot::Slot;

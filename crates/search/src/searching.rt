@@ -1,10 +1,11 @@
 // The search as it is called: over any layout, with tables that are handed in.
-ghost use Rattle.std.specs.Prelude.{◌≡◌, ◌<◌, ◌≤◌, [], ◌∷◌, length, take, Some, None, Ok, Err};
+ghost use Rattle.std.specs.Prelude.{◌≡◌, ◌^◌, ◌<◌, ◌≤◌, [], ◌∷◌, length, take, Some, None, Ok, Err, IfOk};
 ghost use Rattle.walks.specs.Book.{short_table};
 ghost use Rattle.walks.specs.Net.{net, junctions};
 ghost use Rattle.walks.specs.Search.{Searched};
 ghost use Rattle.walks.specs.Tables.{tabled};
 ghost use Rattle.search.specs.Answered.{Answered, Told};
+ghost use Rattle.search.specs.Counted.{Counted, AllCounted, SettledAll};
 ghost use Rattle.search.specs.Explored.{explore_due, Explored};
 
 use crate::found::Found;
@@ -16,17 +17,16 @@ use layout::asking::Layout;
 use layout::refusal::Refusal;
 use measure::Measure;
 
-// Why a call is refused for its tables: the first that has no place for every junction, by its position.
-fn check_tables(junctions: usize, sizes: &[usize]) -> Option<Refusal>
-    requires { length sizes.now ≤ 5 }
-    ensures { result ≡ short_table junctions 1 sizes.now }
+// Why a call is refused for its tables: the first that has no place for every junction, by its position. Up to 65,535 tables; no call has more than five.
+pub fn check_tables(junctions: usize, sizes: &[usize]) -> Option<Refusal>
+    ensures { length sizes.now < 2 ^ 16 → result ≡ short_table junctions 1 sizes.now }
 {
-    let mut place = 1;
+    let mut place: u32 = 1;
     for size in sizes {
         if *size < junctions {
             return Some(Refusal::ShortTable(place));
         }
-        place += 1;
+        place = place.saturating_add(1);
     }
     None
 }
@@ -40,7 +40,9 @@ pub fn explore<L: Layout, M: Measure>(
     waiting: &mut [Slot<M>],
     settled: &mut [u16],
 ) -> Result<u32, Refusal>
-    ensures { Explored M.scale (L.meaning layout.now) start totals.old came.old waiting.old settled.old totals.new came.new waiting.new settled.new result }
+    ensures explored { Explored M.scale (L.meaning layout.now) start totals.old came.old waiting.old settled.old totals.new came.new waiting.new settled.new result }
+    ensures counted { IfOk result (λ count. Counted (L.meaning layout.now) settled.new count) }
+    ensures all { IfOk result (λ count. SettledAll M.scale (L.meaning layout.now) start (record { totals = totals.new; came = came.new; waiting = waiting.new; settled = settled.new }) count) }
 {
     let junctions = layout.junctions();
     if start >= junctions {
@@ -107,7 +109,8 @@ pub fn search<L: Layout, M: Measure>(
     settled: &mut [u16],
     way: &mut [u16],
 ) -> Result<Found<M>, Refusal>
-    ensures { Answered M.scale (L.meaning layout.now) start goal (record { totals = totals.old; came = came.old; waiting = waiting.old; settled = settled.old }) way.old (record { totals = totals.new; came = came.new; waiting = waiting.new; settled = settled.new }) way.new result }
+    ensures answered { Answered M.scale (L.meaning layout.now) start goal (record { totals = totals.old; came = came.old; waiting = waiting.old; settled = settled.old }) way.old (record { totals = totals.new; came = came.new; waiting = waiting.new; settled = settled.new }) way.new result }
+    ensures counted { AllCounted (L.meaning layout.now) settled.new result }
 {
     let junctions = layout.junctions();
     if start >= junctions {

@@ -1,10 +1,11 @@
 use Rattle.std.proofs.Common.{◌≡◌, ℕ, ◌-◌, ◌<◌, ◌≤◌, Bool, cond, [], ◌∷◌, ◌++◌, length, take, Some, None, sym, ap, ◌∙◌, arith, rules}
 use borrow.Rule.Slice.PartMut.{post_of}
-use Rattle.walks.specs.Net.{junctions}
+use Rattle.walks.specs.Net.{net, junctions}
 use Rattle.walks.specs.Book.{short_table}
-use Rattle.search.specs.Answered.{Desk, search_due}
+use Rattle.search.specs.Answered.{Desk, shown, search_due}
 use Rattle.search.proofs.Guiding.{carried_answered, none_due}
-use Rattle.search.proofs.Ending.{search_left}
+use Rattle.search.proofs.Ending.{search_left, search_counted}
+use Rattle.search.proofs.Telling.{all_counted}
 use Rattle.search.proofs.Fronts.{front_long}
 use Rattle.search.proofs.searching.search.Goals as goal
 
@@ -74,4 +75,9 @@ returns g c =
       settled = last.settled ++ post_of 0 k settled;
     } in
     let due : search_due p start goal d way ≡ None = none_due p start goal d way start_in goal_in sizes in
-    carried_answered m p start goal d way d' c.tell.new.way c.tell.result (due, (count, ended, c.tell.ensures))
+    let counted = search_counted m p start (Some goal) k is-n totals last.totals came last.came waiting last.waiting settled last.settled
+    all_waiting all_settled long count few run.tables run.searched run.past in
+    record {
+      answered = carried_answered m p start goal d way d' c.tell.new.way c.tell.result (due, (count, ended, c.tell.ensures));
+      counted = all_counted m (net m p) p start goal (shown m p start d' count) count way c.tell.new.way d'.settled c.tell.result c.tell.ensures counted;
+    }
