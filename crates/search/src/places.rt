@@ -10,11 +10,11 @@ use measure::Measure;
 pub(crate) fn is_before<M: Measure>(one: Slot<M>, other: Slot<M>) -> bool
     ensures { result ≡ before M.scale one other }
 {
-    if one.total.is_below(other.total) {
-        return true;
-    }
     if other.total.is_below(one.total) {
         return false;
+    }
+    if one.total.is_below(other.total) {
+        return true;
     }
     one.number < other.number
 }
@@ -25,9 +25,12 @@ pub(crate) fn lowest_place<M: Measure>(slots: &[Slot<M>], used: usize) -> usize
     ensures { IsFirstBest (before M.scale) slots.now used result }
 {
     let mut best: usize = 0;
+    let mut lowest = slots[0];
     for i in 1..used {
-        if is_before(slots[i], slots[best]) {
+        let slot = slots[i];
+        if is_before(slot, lowest) {
             best = i;
+            lowest = slot;
         }
     }
     best

@@ -1,4 +1,4 @@
-use Rattle.std.proofs.Common.{◌≡◌, ◌+◌, ◌<◌, length, sym, subst, arith}
+use Rattle.std.proofs.Common.{◌≡◌, ◌+◌, ◌<◌, length, get_or, sym, subst, arith}
 use Rattle.std.specs.List.{IsFirstBest}
 use Rattle.std.proofs.lemmas.List.MinMax.{IsFirstBest-keeps, IsFirstBest-takes}
 use Rattle.search.specs.Waiting.{before}
@@ -17,11 +17,13 @@ loop-i-preserved g c =
       | then-is_before w ↦ (
         omega arith,
         subst (IsFirstBest (before m) xs (i + 1)) (sym w.best-is)
-            (IsFirstBest-takes ranks xs i c.loop-i.best _ _ c.loop-i.invariant.1 inside c.index-slots-i.is c.index-slots-best.is (sym w.if-is_before.ensures)),
+            (IsFirstBest-takes ranks xs i c.loop-i.best _ _ c.loop-i.invariant.1 inside c.index-slots-i.is c.loop-i.invariant.2 (sym w.if-is_before.ensures)),
+        subst (λ b. c.if-is_before.lowest ≡ get_or xs b c.if-is_before.lowest) (sym w.best-is) (subst (λ s. s ≡ get_or xs i s) (sym w.lowest-is) c.index-slots-i.is),
       )
       | else-is_before w ↦ (
         omega arith,
         subst (IsFirstBest (before m) xs (i + 1)) (sym w.best-is)
-            (IsFirstBest-keeps ranks xs i c.loop-i.best _ _ c.loop-i.invariant.1 inside c.index-slots-i.is c.index-slots-best.is (sym w.if-is_before.ensures)),
+            (IsFirstBest-keeps ranks xs i c.loop-i.best _ _ c.loop-i.invariant.1 inside c.index-slots-i.is c.loop-i.invariant.2 (sym w.if-is_before.ensures)),
+        subst (λ b. c.if-is_before.lowest ≡ get_or xs b c.if-is_before.lowest) (sym w.best-is) (subst (λ s. s ≡ get_or xs c.loop-i.best s) (sym w.lowest-is) c.loop-i.invariant.2),
       )
     ]
