@@ -1,16 +1,15 @@
 -- When the marked layer shows what is below: under lapsed marks, and for a hall that is not there. Assumes nothing.
-use Rattle.std.proofs.Common.{◌≡◌, ℕ, ◌/◌, ◌%◌, ◌^◌, ◌<◌, ◌≤◌, Bool, true, false, not, ◌&&◌, ◌||◌, eqb, ltb, length, get_or, replicate, Some, refl, ap, ◌∙◌, ⊎_elim, arith}
-use Rattle.std.specs.List.{slice_get}
+use Rattle.std.proofs.Common.{◌≡◌, ℕ, ◌/◌, ◌%◌, ◌^◌, ◌<◌, ◌≤◌, Bool, true, false, not, ◌&&◌, ◌||◌, eqb, ltb, length, get_or, replicate, refl, ap, ◌∙◌, ⊎_elim, arith}
 use Rattle.std.proofs.lemmas.List.{get_or-replicate}
 use Rattle.std.proofs.lemmas.Bool.{cases_lt, ltb-true, lt-ltb, le-ltb, and_parts, and_from, or_left, or_right, not_from_false}
 use Rattle.layout.specs.Limits.{most_halls, most_legs}
-use Rattle.layout.specs.Plant.{Leg, Plant, Sound}
+use Rattle.layout.specs.Plant.{Plant, Sound}
 use Rattle.layout.proofs.Listed.{nth_within}
 use Rattle.layers.specs.Day.{standing}
 use Rattle.marks.specs.Mark.{bit_set, is_marked, possible, shown, shown_leg}
 use Rattle.marks.specs.declared.words.MarkWords.{MarkWords}
 use Rattle.marks.specs.declared.words.Marks.{Marks}
-use Rattle.marks.proofs.Flipping.{all_below, at_below}
+use Rattle.marks.proofs.Flipping.{at_below}
 use Rattle.layers.proofs.Relegging.{relegged_same}
 
 and_same : (b x : Bool) → (b ≡ true → x ≡ true) → (b && x) ≡ b

@@ -1,9 +1,9 @@
 -- A line writes one order at most, and has one answer. Assumes nothing.
-use Rattle.std.proofs.Common.{◌≡◌, ℕ, cond, eqb, List, get_or, Ok, Err, Result, sym, refl, ap, ◌∙◌, subst, inl, inr}
+use Rattle.std.proofs.Common.{◌≡◌, ℕ, cond, eqb, List, get_or, Ok, Err, sym, refl, ap, ◌∙◌, subst, inl, inr}
 use Rattle.tokens.specs.Values.{Numbers}
 use Rattle.tokens.proofs.Cutting.{one_cut}
 use Rattle.tokens.proofs.Reading.{one_list}
-use Rattle.order_text.specs.Orders.{spelt, key_of, order_values, ReadsOrder, OrdersAgree, AnswersAgree}
+use Rattle.order_text.specs.Orders.{spelt, key_of, order_values, OrdersAgree, AnswersAgree}
 use Rattle.order_text.specs.declared.key.OrderKey.{OrderKey}
 use Rattle.order_text.specs.declared.order.Order.{Order}
 use Rattle.order_text.specs.declared.order.Order.TheVariants.{Shut, Open, Set, Renew, Route}

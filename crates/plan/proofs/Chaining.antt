@@ -1,12 +1,12 @@
 -- Chains as one leg more is added, and as they are followed. Assumes nothing.
-use Rattle.std.proofs.Common.{◌≡◌, ℕ, ◌+◌, ◌-◌, ◌<◌, ◌≤◌, ◌⊎◌, List, [], ◌∷◌, ◌++◌, length, get_or, set, replicate, Some, None, Option, sym, refl, ap, ◌∙◌, subst, ⊎_elim, arith}
+use Rattle.std.proofs.Common.{◌≡◌, ℕ, ◌+◌, ◌-◌, ◌<◌, ◌≤◌, List, [], ◌∷◌, ◌++◌, length, get_or, set, replicate, Some, None, Option, sym, refl, ap, ◌∙◌, subst, ⊎_elim, arith}
 use Rattle.std.specs.List.{slice_get}
 use Rattle.std.proofs.lemmas.List.{get_or-set_same, get_or-set_other, length-set, get_or-replicate, length-replicate}
 use Rattle.std.proofs.lemmas.Bool.{cases_eq, cases_lt}
 use Rattle.layout.specs.Plant.{Next}
 use Rattle.layout.proofs.Listed.{nth_within}
 use Rattle.layout.proofs.Nexts.{Missed}
-use Rattle.plan.specs.Chained.{Chained, Last, ChainsWithin}
+use Rattle.plan.specs.Chained.{Chained, Last}
 use Rattle.plan.specs.declared.chains.Chains.{Chains}
 use Rattle.plan.proofs.Pushed.{old_or_new, nth_old, nth_new}
 

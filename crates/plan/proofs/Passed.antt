@@ -1,5 +1,5 @@
 -- What holds of a call that no check refused. Assumes nothing.
-use Rattle.std.proofs.Common.{◌≡◌, ℕ, ◌<◌, Bool, true, false, Some, None, Option, refl, arith}
+use Rattle.std.proofs.Common.{◌≡◌, ℕ, ◌<◌, Bool, true, false, None, Option, refl, arith}
 use Rattle.std.proofs.lemmas.Bool.{ltb-true}
 use Rattle.layout.specs.Plant.{Leg, SoundLeg}
 use Rattle.layout.specs.Refused.{refuse_unless}

@@ -1,5 +1,5 @@
 -- What a drawing means, what keeps it sound, and what entering does to it. Assumes nothing.
-use Rattle.std.specs.Prelude.{◌≡◌, ℕ, ◌≤◌, Bool, true, List, [], ◌∷◌, ◌++◌, map, length, take, Some, None, Option, nat_lt}
+use Rattle.std.specs.Prelude.{◌≡◌, ℕ, ◌≤◌, [], ◌∷◌, ◌++◌, map, length, take, None, Option, nat_lt}
 use Rattle.layout.specs.Limits.{most_junctions, most_legs, halls_fit, metres_fit, class_fits, clearance_fits, turn_fits}
 use Rattle.layout.specs.Plant.{Leg, Plant, Sound, leg_of, tails, heads}
 use Rattle.layout.specs.Refused.{refuse_unless}

@@ -1,5 +1,4 @@
 -- What a draft and a plan mean: what was entered. Assumes nothing.
-use Rattle.std.specs.Prelude.{ℕ}
 use Rattle.layout.specs.Plant.{Plant}
 use Rattle.plan.specs.Drawn.{drawn}
 use Rattle.plan.specs.declared.draft.Draft.{Draft}

@@ -1,5 +1,5 @@
 -- What a search backwards from an entry leaves in its tables. Assumes nothing.
-use Rattle.std.proofs.Common.{◌≡◌, ℕ, ◌+◌, ◌-◌, ◌<◌, ◌≤◌, Bool, cond, not, ◌||◌, eqb, List, [], length, get_or, take, drop, Some, None, Option, unwrap_or, sym, refl, ap, ◌∙◌, subst, arith, MatchOption}
+use Rattle.std.proofs.Common.{◌≡◌, ℕ, ◌+◌, ◌-◌, ◌<◌, ◌≤◌, cond, not, ◌||◌, eqb, List, [], length, get_or, take, drop, Some, None, Option, unwrap_or, sym, refl, ap, ◌∙◌, subst, arith, MatchOption}
 use Rattle.std.specs.Option.{option_map}
 use Rattle.std.specs.List.{slice_get}
 use Rattle.std.proofs.lemmas.List.{get_or-take, drop-drop}
@@ -7,8 +7,8 @@ use Rattle.measure.specs.Scale.{Scale, Lawful}
 use Rattle.layout.specs.Plant.{Leg, Plant, Sound}
 use Rattle.layers.specs.Turn.{turned_leg, turned as turned_plant}
 use Rattle.layers.specs.Soundness.{nth_changed}
-use Rattle.walks.specs.Net.{Net, net, turned, no_leg, leg_at, junctions}
-use Rattle.walks.specs.Search.{State, Settled, Searched}
+use Rattle.walks.specs.Net.{net, turned, no_leg, leg_at, junctions}
+use Rattle.walks.specs.Search.{State, Searched}
 use Rattle.walks.specs.Tables.{tabled, no_came_by}
 use Rattle.walks.specs.Walk.{Leads, Best}
 use Rattle.walks.proofs.Choosing.{some_same, none_some}

@@ -1,5 +1,5 @@
 -- Whether a leg begins a best walk, by the tables. Assumes nothing.
-use Rattle.std.proofs.Common.{◌≡◌, ℕ, ◌<◌, Bool, true, false, List, [], Some, None, Decides, Option, sym, refl, ap, ◌∙◌, subst, ap₂, MatchOption}
+use Rattle.std.proofs.Common.{◌≡◌, ℕ, ◌<◌, Bool, true, false, List, [], Some, None, Decides, Option, refl, ap, ◌∙◌, subst, MatchOption}
 use Rattle.std.specs.Option.{option_map}
 use Rattle.std.proofs.lemmas.Bool.{both_ways}
 use Rattle.measure.specs.Scale.{Scale, Lawful}

@@ -1,10 +1,10 @@
 -- How far the marks of a hall have been renewed. Assumes nothing.
-use Rattle.std.specs.Prelude.{◌≡◌, ℕ, ◌<◌, ◌≤◌, Bool, true, false, ◌≢◌, ◌⊎◌, ◌↔◌, List, [], length, MatchOption}
+use Rattle.std.specs.Prelude.{◌≡◌, ℕ, ◌<◌, ◌≤◌, true, ◌≢◌, ◌⊎◌, ◌↔◌, List, [], length, MatchOption}
 use Rattle.measure.specs.Scale.{Scale}
 use Rattle.layout.specs.Plant.{Plant}
 use Rattle.marks.specs.Mark.{is_marked}
 use Rattle.marks.specs.declared.words.Marks.{Marks}
-use Rattle.walks.specs.Marks.{Entry, OnBest, BothEnds, Flagged}
+use Rattle.walks.specs.Marks.{Entry, OnBest, BothEnds}
 use Rattle.walks.specs.Net.{net, junctions, hall_at}
 use Rattle.walks.specs.Tables.{tabled}
 use Rattle.walks.specs.Walk.{Leads, Best}

@@ -1,5 +1,5 @@
 -- What renewing a hall answers, and what it leaves. Assumes nothing.
-use Rattle.std.specs.Prelude.{◌≡◌, ℕ, List, length, drop, Some, None, Ok, Err, Option, Result}
+use Rattle.std.specs.Prelude.{◌≡◌, ℕ, length, drop, Some, None, Ok, Err, Option, Result}
 use Rattle.measure.specs.Scale.{Scale}
 use Rattle.layout.specs.Plant.{Plant}
 use Rattle.layout.specs.declared.refusal.Refusal.{Refusal}

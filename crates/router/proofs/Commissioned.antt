@@ -1,5 +1,5 @@
 -- A history begins with commissioning. Assumes nothing.
-use Rattle.std.proofs.Common.{◌≡◌, ℕ, zero, suc, ◌<◌, Bool, true, false, ◌&&◌, ltb, List, [], length, get_or, replicate, Some, None, Ok, Err, Option, Result, sym, refl, ap, ◌∙◌, subst, arith}
+use Rattle.std.proofs.Common.{◌≡◌, ℕ, zero, suc, ◌<◌, true, false, ◌&&◌, ltb, [], length, get_or, replicate, Some, None, Ok, Err, Option, Result, sym, refl, ap, ◌∙◌, arith}
 use Rattle.std.specs.Option.{option_map}
 use Rattle.std.proofs.lemmas.Bool.{lt-ltb}
 use Rattle.measure.specs.Scale.{Scale}
@@ -12,7 +12,7 @@ use Rattle.marks.specs.Mark.{is_marked, possible}
 use Rattle.halls.specs.Force.{in_force}
 use Rattle.halls.specs.declared.force.HallMarks.{HallMarks}
 use Rattle.walks.specs.Orders.{all_lapsed}
-use Rattle.router.specs.Worked.{noted, SheetOf, MarksOf, Worked}
+use Rattle.router.specs.Worked.{noted, Worked}
 
 -- a list of one value has it everywhere, and past its end
 all_alike : {X : Type 0} (n e : ℕ) (x : X) → get_or (replicate n x) e x ≡ x

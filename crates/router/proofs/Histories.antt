@@ -1,5 +1,5 @@
 -- One call more in a history. Assumes nothing.
-use Rattle.std.proofs.Common.{◌≡◌, ℕ, zero, suc, ◌+◌, ◌<◌, Bool, true, false, cond, not, ◌&&◌, ◌||◌, ltb, List, [], ◌∷◌, ◌++◌, length, Some, None, Ok, Err, Option, Result, sym, refl, ap, ◌∙◌, subst, ⊎_elim, arith, MatchOption}
+use Rattle.std.proofs.Common.{◌≡◌, ℕ, zero, suc, ◌+◌, ◌<◌, Bool, true, false, cond, not, ◌&&◌, ◌||◌, ltb, List, [], ◌∷◌, ◌++◌, length, Some, None, Ok, Err, Option, Result, sym, refl, ap, ◌∙◌, subst, arith, MatchOption}
 use Rattle.std.proofs.lemmas.Bool.{lt-ltb}
 use Rattle.measure.specs.Scale.{Scale, Lawful}
 use Rattle.layout.specs.Plant.{Plant, Sound}
@@ -16,7 +16,7 @@ use Rattle.walks.specs.Answers.{halls as halls_answer, CarriedOut, halls_lapsed}
 use Rattle.walks.specs.Book.{Call, Book, blank, book, kept, after, refusal_of}
 use Rattle.walks.specs.Orders.{Marks, Left, lapsed, lapsing, Acts, Turns}
 use Rattle.walks.proofs.Left.{marks_left, carries_on}
-use Rattle.router.specs.Ordered.{Lapses, Ordered, lapsed_answer}
+use Rattle.router.specs.Ordered.{Ordered, lapsed_answer}
 use Rattle.router.specs.Worked.{SheetOf, MarksOf, Worked, GoesOn}
 
 -- the book after one call more

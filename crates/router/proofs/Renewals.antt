@@ -1,11 +1,11 @@
 -- Renewing goes on as the crew's book has it. Assumes nothing.
-use Rattle.std.proofs.Common.{◌≡◌, ℕ, suc, ◌<◌, ◌≤◌, Bool, true, false, cond, ◌&&◌, eqb, ltb, ◌≢◌, ◌⊎◌, ◌↔◌, List, [], ◌∷◌, length, Some, None, Ok, Err, Option, Result, sym, refl, ap, ◌∙◌, subst, inl, inr, ⊎_elim, arith, MatchOption}
-use Rattle.std.proofs.lemmas.Bool.{cases_eq, cases_lt, eq-eqb, ne_eqb, lt-ltb, le-ltb, and_parts, and_from, both_ways, ltb-true}
+use Rattle.std.proofs.Common.{◌≡◌, ℕ, suc, ◌<◌, true, cond, ◌&&◌, eqb, ltb, ◌↔◌, List, [], ◌∷◌, length, Some, None, Ok, Err, Option, Result, sym, refl, ap, ◌∙◌, subst, inl, ⊎_elim, MatchOption}
+use Rattle.std.proofs.lemmas.Bool.{cases_eq, eq-eqb, ne_eqb, lt-ltb, and_parts, and_from, ltb-true}
 use Rattle.measure.specs.Scale.{Scale, Lawful}
 use Rattle.layers.specs.Day.{entered, entered_leg}
 use Rattle.layers.specs.Relegged.{changed_from}
 use Rattle.layers.specs.declared.sheet.Sheet.{Sheet}
-use Rattle.layout.specs.Plant.{Leg, Plant, Sound}
+use Rattle.layout.specs.Plant.{Plant, Sound}
 use Rattle.layout.specs.Refused.{unless}
 use Rattle.layout.specs.declared.refusal.Refusal.{Refusal}
 use Rattle.marks.specs.Mark.{is_marked}
@@ -13,7 +13,7 @@ use Rattle.halls.specs.Force.{in_force}
 use Rattle.halls.specs.declared.force.HallMarks.{HallMarks}
 use Rattle.walks.specs.Answers.{Answer, refused, count_below, CarriedOut, Answered}
 use Rattle.walks.specs.Answers.{legs as legs_answer}
-use Rattle.walks.specs.Book.{Book, with_book, refusal_of, after}
+use Rattle.walks.specs.Book.{Book, with_book, refusal_of}
 use Rattle.walks.specs.Marks.{Exactly, Flagged}
 use Rattle.walks.specs.Net.{net, hall_at}
 use Rattle.walks.specs.Orders.{Marks, Acts, Turns}
@@ -21,7 +21,7 @@ use Rattle.walks.specs.Orders.{Renewed as RenewedMarks}
 use Rattle.walks.proofs.Nets.{net_finite}
 use Rattle.search.specs.Answered.{Desk}
 use Rattle.renew.specs.Flags.{Written}
-use Rattle.renew.specs.Renewed.{renew_due, Renewed, Renews}
+use Rattle.renew.specs.Renewed.{Renewed}
 use Rattle.router.specs.Ordered.{marked_answer}
 use Rattle.router.specs.Renewing.{Enforced, renewing, RenewsHall}
 use Rattle.router.specs.Worked.{SheetOf, MarksOf, GoesOn}

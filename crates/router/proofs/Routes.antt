@@ -1,11 +1,11 @@
 -- A route goes on as the crew's book has it, and keeps its promise. Assumes nothing.
-use Rattle.std.proofs.Common.{◌≡◌, ℕ, suc, ◌<◌, Bool, true, false, not, ◌&&◌, ◌||◌, ltb, List, [], ◌∷◌, length, get_or, take, Some, None, Ok, Err, Option, Result, unwrap_or, sym, refl, ap, ◌∙◌, subst, inl, inr, arith, MatchOption}
+use Rattle.std.proofs.Common.{◌≡◌, ℕ, ◌<◌, not, ◌&&◌, ◌||◌, ltb, List, length, get_or, take, Some, None, Ok, Err, Option, Result, unwrap_or, sym, refl, ap, ◌∙◌, subst, inl, inr, MatchOption}
 use Rattle.std.specs.Option.{option_map}
 use Rattle.std.specs.List.{slice_get}
 use Rattle.std.proofs.lemmas.Option.{slice_get-get_or}
 use Rattle.std.proofs.lemmas.Bool.{lt-ltb}
 use Rattle.measure.specs.Scale.{Scale, Lawful}
-use Rattle.layers.specs.Day.{entered, standing}
+use Rattle.layers.specs.Day.{standing}
 use Rattle.layers.specs.Soundness.{nth_changed}
 use Rattle.layers.specs.declared.sheet.Sheet.{Sheet}
 use Rattle.layout.specs.Plant.{Leg, Plant, Sound}
@@ -15,10 +15,10 @@ use Rattle.layout.specs.declared.refusal.Refusal.TheVariants.{NoWay}
 use Rattle.layout.proofs.Listed.{nth_within}
 use Rattle.marks.specs.Mark.{is_marked, shown, shown_leg}
 use Rattle.halls.specs.declared.force.HallMarks.{HallMarks}
-use Rattle.walks.specs.Answers.{Answer, found, refused, route_net, Tells, there, nowhere, CarriedOut, Answered}
-use Rattle.walks.specs.Book.{Call, Book, with_book, amended_from, book, refusal_of}
+use Rattle.walks.specs.Answers.{Answer, found, refused, route_net, Tells, there, nowhere, CarriedOut}
+use Rattle.walks.specs.Book.{Book, with_book, book, refusal_of}
 use Rattle.walks.specs.Net.{net, only, no_leg, leg_at, junctions, hall_at}
-use Rattle.walks.specs.Orders.{Marks, Left, Acts, Turns}
+use Rattle.walks.specs.Orders.{Marks, Acts}
 use Rattle.walks.specs.Search.{State, Searched}
 use Rattle.walks.proofs.Choosing.{none_some, some_same}
 use Rattle.walks.proofs.Left.{marks_left}
@@ -30,8 +30,8 @@ use Rattle.search.specs.Counted.{AllCounted}
 use Rattle.search.specs.Answered.{search_due}
 use Rattle.search.specs.Answered.{Answered as SearchAnswered}
 use Rattle.search.specs.declared.found.Found.{Found}
-use Rattle.router.specs.Routing.{seen, routing, route_answer, settled_in, Promised, KeepsPromise}
-use Rattle.router.specs.Worked.{SheetOf, MarksOf, Worked, GoesOn}
+use Rattle.router.specs.Routing.{seen, routing, route_answer, settled_in, KeepsPromise}
+use Rattle.router.specs.Worked.{SheetOf, MarksOf, GoesOn}
 use Rattle.router.proofs.Histories.{goes_on_by}
 use Rattle.router.proofs.Renewals.{nothing_entered}
 use Rattle.router.proofs.Sheets.{sheet_meaning}

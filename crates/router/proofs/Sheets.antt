@@ -2,14 +2,13 @@
 use Rattle.std.proofs.Common.{◌≡◌, ℕ, suc, ◌+◌, ◌<◌, Bool, true, false, cond, not, ◌&&◌, eqb, ltb, List, [], ◌∷◌, length, get_or, set, Some, None, Option, unwrap_or, sym, refl, ap, ◌∙◌, subst, ap₂, ⊎_elim, arith}
 use Rattle.std.specs.Option.{option_map}
 use Rattle.std.proofs.lemmas.List.{get_or-set_same, get_or-set_other}
-use Rattle.std.proofs.lemmas.Bool.{cases_eq, cases_lt, eq-eqb, ne_eqb, lt-ltb, le-ltb, ltb-true, both_ways}
-use Rattle.layout.specs.Limits.{class_fits, clearance_fits}
+use Rattle.std.proofs.lemmas.Bool.{cases_eq, eq-eqb, ne_eqb, ltb-true}
 use Rattle.layout.specs.Plant.{Leg, Plant, Sound}
 use Rattle.layout.specs.Refused.{refuse_unless, unless}
 use Rattle.layout.specs.declared.refusal.Refusal.{Refusal}
 use Rattle.layout.specs.declared.refusal.Refusal.TheVariants.{NoLeg, Already}
 use Rattle.layout.proofs.Listed.{mapped_mapped}
-use Rattle.layers.specs.Day.{is_shut, replacing, entered_leg, Wide, signed, figured, refuses_sign, refuses_set}
+use Rattle.layers.specs.Day.{replacing, entered_leg, Wide, signed, figured, refuses_sign, refuses_set}
 use Rattle.layers.specs.Day.{entered as with_sheet}
 use Rattle.layers.specs.Relegged.{changed_from}
 use Rattle.layers.specs.declared.sheet.Replaced.{Replaced}

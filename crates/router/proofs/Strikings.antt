@@ -1,5 +1,5 @@
 -- Orders strike the halls that the crew's book says. Assumes nothing.
-use Rattle.std.proofs.Common.{◌≡◌, ℕ, suc, ◌<◌, Bool, true, false, cond, not, ◌&&◌, ◌||◌, List, [], ◌∷◌, length, Some, None, Option, Result, sym, refl, ap, ◌∙◌, subst, ap₂}
+use Rattle.std.proofs.Common.{◌≡◌, ℕ, suc, ◌<◌, Bool, true, false, cond, ◌&&◌, ◌||◌, List, [], ◌∷◌, length, Some, None, Result, sym, refl, ap, ◌∙◌, subst, ap₂}
 use Rattle.std.specs.Option.{option_map}
 use Rattle.std.proofs.lemmas.Option.{slice_get-get_or}
 use Rattle.std.proofs.lemmas.Bool.{ltb-true}
@@ -11,14 +11,12 @@ use Rattle.layers.specs.Day.{Wide, signed, figured, refuses_sign, refuses_set}
 use Rattle.layers.specs.Day.{entered as with_sheet}
 use Rattle.layers.specs.declared.sheet.Sheet.{Sheet}
 use Rattle.marks.specs.Mark.{is_marked}
-use Rattle.halls.specs.Force.{in_force, struck}
+use Rattle.halls.specs.Force.{struck}
 use Rattle.halls.specs.Force.{lapsing as lapsing_of}
 use Rattle.halls.specs.declared.force.HallMarks.{HallMarks}
-use Rattle.halls.specs.declared.force.Strikes.{Strikes}
 use Rattle.halls.specs.declared.force.Strikes.TheVariants as strike
-use Rattle.walks.specs.Answers.{Answer}
 use Rattle.walks.specs.Answers.{halls as halls_answer}
-use Rattle.walks.specs.Book.{Book, shut, reopen, with_book, amended_from, entered, after}
+use Rattle.walks.specs.Book.{Book, shut, reopen, with_book, amended_from, entered}
 use Rattle.walks.specs.Book.{set as set_order}
 use Rattle.walks.specs.Net.{no_leg, leg_at, weight_of, weight_if_any}
 use Rattle.walks.specs.Orders.{Marks, lapsing}

@@ -1,5 +1,5 @@
 -- Whom an order strikes. Assumes nothing.
-use Rattle.std.specs.Prelude.{ℕ, Bool, cond, Some, None, Option}
+use Rattle.std.specs.Prelude.{ℕ, cond, Some, None, Option}
 use Rattle.measure.specs.Scale.{Scale}
 use Rattle.layout.specs.Plant.{Plant}
 use Rattle.halls.specs.declared.force.Strikes.{Strikes}

@@ -1,11 +1,11 @@
 -- The leg by which a junction came leaves a junction that was settled earlier. Assumes nothing.
-use Rattle.std.proofs.Common.{◌≡◌, ℕ, zero, suc, ◌<◌, ◌≤◌, Bool, true, false, cond, eqb, ◌≢◌, ◌⊎◌, List, [], ◌∷◌, ◌++◌, length, get_or, Some, None, Option, sym, refl, ap, ◌∙◌, subst, inl, inr, ⊎_elim, arith}
+use Rattle.std.proofs.Common.{◌≡◌, ℕ, zero, suc, ◌<◌, true, cond, eqb, ◌≢◌, ◌⊎◌, List, [], ◌∷◌, ◌++◌, length, Some, Option, sym, refl, ap, ◌∙◌, subst, inl, inr, ⊎_elim, arith}
 use Rattle.std.specs.List.{ContainsAt as Has}
 use Rattle.std.proofs.ByRecursion.{has_append_left, has_append_right, has_push, has_push_cases}
 use Rattle.std.proofs.lemmas.Bool.{cases_eq, eq-eqb, ne_eqb}
 use Rattle.measure.specs.Scale.{Scale}
 use Rattle.walks.specs.Net.{Net}
-use Rattle.walks.specs.Search.{State, Settled, Begins, Keeps, Gets, Lowers, Relaxes, Settles, Runs, ended, step, Searched}
+use Rattle.walks.specs.Search.{State, Settled, Keeps, Relaxes, Settles, Runs, ended, step, Searched}
 use Rattle.walks.proofs.Choosing.{Whether, some_same, none_some, has?, has_none, goal?}
 use Rattle.search.specs.Way.{place_in}
 

@@ -4,7 +4,7 @@ use borrow.Rule.Slice.PartMut.{post_of}
 use Rattle.measure.specs.Scale.{Scale}
 use Rattle.layout.specs.Plant.{Plant}
 use Rattle.walks.specs.Net.{net, junctions}
-use Rattle.walks.specs.Search.{State, Searched}
+use Rattle.walks.specs.Search.{Searched}
 use Rattle.walks.specs.Tables.{tabled, Held}
 use Rattle.std.proofs.lemmas.List.{length-take-le}
 use Rattle.search.specs.Counted.{Counted}

@@ -1,16 +1,16 @@
 -- From what a search left in its tables to what it answers. Assumes nothing.
-use Rattle.std.proofs.Common.{◌≡◌, ℕ, zero, suc, ◌<◌, ◌≤◌, Bool, true, false, cond, eqb, ltb, ◌≢◌, ◌⊎◌, List, [], ◌∷◌, ◌++◌, length, get_or, take, drop, Some, None, Ok, Err, Option, Result, sym, refl, ap, ◌∙◌, subst, inl, inr, ⊎_elim, arith}
+use Rattle.std.proofs.Common.{◌≡◌, ℕ, suc, ◌<◌, ◌≤◌, Bool, true, false, cond, ltb, ◌≢◌, List, [], ◌∷◌, length, get_or, take, drop, Some, None, Ok, Err, Option, Result, sym, refl, ap, ◌∙◌, subst, inr, ⊎_elim, arith}
 use Rattle.std.specs.List.{ContainsAt as Has}
 use Rattle.std.proofs.lemmas.List.{get_or-take, get_or_default, length-take-le}
 use Rattle.std.proofs.ByRecursion.{has_append_right, has_append_left, has_push}
-use Rattle.std.proofs.lemmas.Bool.{lt-ltb, ltb-true, cases_eq, eq-eqb, ne_eqb}
+use Rattle.std.proofs.lemmas.Bool.{lt-ltb, ltb-true, cases_eq, ne_eqb}
 use Rattle.layout.specs.declared.refusal.Refusal.{Refusal}
 use Rattle.measure.specs.Scale.{Scale, Lawful}
 use Rattle.layout.specs.Plant.{Plant, Sound}
 use Rattle.layout.specs.Refused.{refuse_unless}
 use Rattle.layout.specs.declared.refusal.Refusal.TheVariants.{NoJunction}
 use Rattle.walks.specs.Book.{short_table}
-use Rattle.walks.specs.Net.{Net, net, junctions, leg_at}
+use Rattle.walks.specs.Net.{net, junctions, leg_at}
 use Rattle.walks.specs.Search.{State, Settled, Searched}
 use Rattle.walks.specs.Search as rule
 use Rattle.walks.specs.Tables.{tabled, no_came_by}
@@ -23,7 +23,7 @@ use Rattle.search.specs.Answered.{Desk, Reached, Stranded, search_due, CarriedOu
 use Rattle.search.specs.declared.found.Found.{Found}
 use Rattle.search.specs.Traces.{Tailed, Falling, TracedBack}
 use Rattle.search.specs.Way.{Traced, origin, back, Falls, came_by, tail_of, place_in}
-use Rattle.search.proofs.Earlier.{Earlier, searched_earlier, place_there}
+use Rattle.search.proofs.Earlier.{Earlier, searched_earlier}
 use Rattle.search.proofs.Tabled.{has_place, at_start, by_a_leg, by_none}
 
 -- whoever has a place in a list stands in it

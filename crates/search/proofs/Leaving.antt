@@ -1,13 +1,13 @@
 -- The legs that leave a junction, as the layout's index gives them. Assumes nothing.
-use Rattle.std.proofs.Common.{◌≡◌, ℕ, ◌<◌, ◌≤◌, true, false, List, length, Some, None, Option, unwrap_or, sym, refl, ap, ◌∙◌, arith}
+use Rattle.std.proofs.Common.{◌≡◌, ℕ, ◌<◌, true, length, Some, None, Option, unwrap_or, sym, refl, ap, ◌∙◌, arith}
 use Rattle.std.specs.Option.{option_map}
 use Rattle.std.specs.List.{slice_get}
 use Rattle.std.proofs.lemmas.List.{length-map}
 use Rattle.std.proofs.lemmas.Bool.{both_ways}
 use Rattle.measure.specs.Scale.{Scale}
-use Rattle.layout.specs.Plant.{Leg, Plant, Sound, tails, Next}
+use Rattle.layout.specs.Plant.{Leg, Plant, tails}
 use Rattle.layout.proofs.Listed.{nth_map, nth_within}
-use Rattle.walks.specs.Net.{Net, net, leg_at, no_leg}
+use Rattle.walks.specs.Net.{net, no_leg}
 use Rattle.walks.specs.Search.{Offer}
 
 module _ {T : Type 0} (m : Scale T) (p : Plant) where

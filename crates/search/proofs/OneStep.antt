@@ -1,24 +1,22 @@
 -- One junction is settled, by the tables and the queue. Assumes nothing.
-use Rattle.std.proofs.Common.{◌≡◌, ℕ, zero, suc, ◌+◌, ◌<◌, ◌≤◌, true, false, eqb, ◌≢◌, ◌⊎◌, List, [], ◌∷◌, ◌++◌, length, Some, None, Option, sym, refl, ap, ◌∙◌, subst, inl, inr, ⊎_elim, arith}
+use Rattle.std.proofs.Common.{◌≡◌, ℕ, zero, suc, ◌<◌, true, eqb, ◌≢◌, List, [], ◌∷◌, ◌++◌, length, Some, None, Option, sym, refl, ap, ◌∙◌, subst, inl, inr, ⊎_elim, arith}
 use Rattle.std.specs.List.{ContainsAt as Has, AllByRecursion}
 use Rattle.std.specs.Map.{update}
 use Rattle.std.proofs.ByRecursion.{has_append_left, has_push, has_push_cases, All-push}
 use Rattle.std.proofs.lemmas.List.{length_push}
 use Rattle.std.proofs.lemmas.Map.{update_here, update_apart}
-use Rattle.std.proofs.lemmas.Bool.{cases_eq}
 use Rattle.measure.specs.Scale.{Scale, Lawful}
 use Rattle.walks.specs.Net.{Net}
-use Rattle.walks.specs.Search.{State, Settled, Arrived, Waits, Lowest, Keeps, Relaxes, Settles, Ends, Runs, ended, step, Searched}
-use Rattle.walks.specs.InTurn.{Takes, TakesTo}
+use Rattle.walks.specs.Search.{State, Arrived, Lowest, Keeps, Relaxes, Settles, ended, step, Searched}
+use Rattle.walks.specs.InTurn.{TakesTo}
 use Rattle.walks.specs.Tables.{tabled}
-use Rattle.walks.proofs.Choosing.{some_same, none_some}
-use Rattle.walks.proofs.Frontier.{Invariant}
+use Rattle.walks.proofs.Choosing.{none_some}
 use Rattle.walks.proofs.InTurn.{in_turn}
 use Rattle.walks.proofs.Order.{irrefl}
 use Rattle.walks.proofs.Settling.{invariant_step}
 use Rattle.search.specs.Apart.{Apart}
 use Rattle.search.specs.Running.{Running}
-use Rattle.search.specs.Standing.{Agrees, TablesOf, Firm, Stands}
+use Rattle.search.specs.Standing.{TablesOf, Stands}
 use Rattle.search.specs.Waiting.{Lowest as FirstOut}
 use Rattle.search.proofs.Fewer.{apart_push, few}
 use Rattle.search.proofs.Tabled.{has_place}

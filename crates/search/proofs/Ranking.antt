@@ -1,7 +1,7 @@
 -- By lower total and then lower number the slots are ranked, and what no slot comes before is the lowest. Assumes nothing.
-use Rattle.std.proofs.Common.{◌≡◌, ℕ, zero, suc, ◌<◌, ◌≤◌, Bool, true, false, eqb, ltb, ◌⊎◌, List, [], ◌∷◌, length, get_or, Some, None, sym, refl, ap, ◌∙◌, subst, inl, inr, ⊎_elim, arith}
+use Rattle.std.proofs.Common.{◌≡◌, ℕ, suc, ◌<◌, ◌≤◌, true, false, eqb, ◌⊎◌, List, [], ◌∷◌, length, get_or, Some, sym, ap, ◌∙◌, subst, inl, inr, ⊎_elim, arith}
 use Rattle.std.specs.Cmp.{IsStrictWeakOrder}
-use Rattle.std.proofs.lemmas.Bool.{both_ways, ltb-true, ltb-false, lt-ltb, le-ltb, cases_Bool, and_parts, or_cases, or_parts, or_from, and_cases, and_left, and_right, not-true, not-false, not_from_true, eqb-true, cond-true, cond-false}
+use Rattle.std.proofs.lemmas.Bool.{both_ways, ltb-true, ltb-false, le-ltb, cases_Bool, and_parts, or_cases, or_parts, or_from, and_cases, and_left, and_right, not-true, not-false, not_from_true, eqb-true, cond-true, cond-false}
 use Rattle.measure.specs.Scale.{Scale, Lawful}
 use Rattle.measure.proofs.Order.{not_below_itself}
 use Rattle.search.specs.declared.slot.Slot.{Slot}

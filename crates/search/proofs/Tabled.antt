@@ -1,9 +1,9 @@
 -- What a write to the tables does to the state that they show. Assumes nothing.
-use Rattle.std.proofs.Common.{◌≡◌, ℕ, zero, suc, ◌<◌, ◌≤◌, Bool, true, false, cond, not, ◌||◌, eqb, ◌≢◌, ◌⊎◌, List, [], length, get_or, set, replicate, Some, None, Option, unwrap_or, sym, refl, ap, ◌∙◌, subst, inl, inr, ⊎_elim, arith}
+use Rattle.std.proofs.Common.{◌≡◌, ℕ, zero, suc, ◌<◌, Bool, true, false, cond, not, ◌||◌, eqb, ◌≢◌, List, [], length, get_or, set, replicate, Some, None, unwrap_or, sym, refl, ap, ◌∙◌, subst, ⊎_elim, arith}
 use Rattle.std.proofs.lemmas.List.{get_or-set_same, get_or-set_other, length-set, length-replicate, get_or_past}
-use Rattle.std.proofs.lemmas.Bool.{cases_eq, cases_lt, eq-eqb, ne_eqb, eqb-true, both_ways}
+use Rattle.std.proofs.lemmas.Bool.{cases_eq, cases_lt, eq-eqb, ne_eqb}
 use Rattle.measure.specs.Scale.{Scale}
-use Rattle.walks.specs.Search.{State, Settled, Begins, Keeps, Gets}
+use Rattle.walks.specs.Search.{Begins, Keeps, Gets}
 use Rattle.walks.specs.Tables.{no_came_by, came_by, tabled, Held}
 use Rattle.walks.proofs.Choosing.{none_some}
 use Rattle.search.specs.Standing.{TablesOf}

@@ -1,13 +1,12 @@
 -- What a search without a goal has settled. Assumes nothing.
-use Rattle.std.proofs.Common.{◌≡◌, ℕ, ◌<◌, ◌≤◌, List, length, get_or, take, None, Ok, Err, Option, Result, unwrap_or, sym, ap, ◌∙◌, subst}
+use Rattle.std.proofs.Common.{◌≡◌, ℕ, ◌<◌, ◌≤◌, List, length, get_or, take, None, Ok, Err, Result, unwrap_or, sym, ap, ◌∙◌, subst}
 use Rattle.std.proofs.lemmas.List.{get_or-take}
 use Rattle.measure.specs.Scale.{Scale, Lawful}
 use Rattle.layout.specs.Plant.{Plant, Sound}
 use Rattle.layout.specs.declared.refusal.Refusal.{Refusal}
 use Rattle.layout.specs.declared.refusal.Refusal.TheVariants.{NoWay}
 use Rattle.walks.specs.Net.{Net, net, junctions}
-use Rattle.walks.specs.Search.{State, Settled, Searched}
-use Rattle.walks.specs.Tables.{tabled, Held}
+use Rattle.walks.specs.Search.{State, Settled}
 use Rattle.walks.specs.Walk.{Best}
 use Rattle.walks.proofs.Results.{settled_best, found_all}
 use Rattle.search.specs.Answered.{Desk, shown, Told}

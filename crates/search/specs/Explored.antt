@@ -7,7 +7,7 @@ use Rattle.layout.specs.declared.refusal.Refusal.{Refusal}
 use Rattle.layout.specs.declared.refusal.Refusal.TheVariants.{NoJunction}
 use Rattle.walks.specs.Book.{short_table}
 use Rattle.walks.specs.Net.{net, junctions}
-use Rattle.walks.specs.Search.{State, Searched}
+use Rattle.walks.specs.Search.{Searched}
 use Rattle.walks.specs.Tables.{tabled, Held}
 use Rattle.search.specs.declared.slot.Slot.{Slot}
 

@@ -1,5 +1,5 @@
 -- A search that is under way: its tables and its queue hold a state that the rule leads to. Assumes nothing.
-use Rattle.std.specs.Prelude.{◌≡◌, ℕ, ◌<◌, List, length, Option}
+use Rattle.std.specs.Prelude.{ℕ, ◌<◌, List, Option}
 use Rattle.std.specs.List.{AllByRecursion}
 use Rattle.measure.specs.Scale.{Scale}
 use Rattle.walks.specs.Net.{Net}

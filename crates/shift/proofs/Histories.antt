@@ -1,5 +1,5 @@
 -- A shift, turn by turn. Assumes nothing.
-use Rattle.std.proofs.Common.{◌≡◌, ℕ, ◌+◌, ◌<◌, ◌≤◌, List, [], ◌∷◌, ◌++◌, map, length, get_or, take, drop, set, Some, sym, refl, ap, ◌∙◌, subst, ap₂, arith}
+use Rattle.std.proofs.Common.{◌≡◌, ℕ, ◌+◌, ◌<◌, ◌≤◌, List, [], ◌∷◌, ◌++◌, length, get_or, take, drop, set, Some, sym, refl, ap, ◌∙◌, subst, arith}
 use Rattle.std.proofs.lemmas.List.{take_more, take_more_set, take_all, drop-set-lt, get_or-drop, drop-drop, map_push}
 use Rattle.measure.specs.Scale.{Scale, Lawful}
 use Rattle.layers.specs.declared.sheet.Sheet.{Sheet}
@@ -7,7 +7,7 @@ use Rattle.layout.specs.Plant.{Plant, Sound}
 use Rattle.halls.specs.declared.force.HallMarks.{HallMarks}
 use Rattle.walks.specs.Answers.{Answer, Answered, Told}
 use Rattle.walks.specs.Book.{Call, Book, blank, kept, after, book}
-use Rattle.walks.specs.Orders.{Marks, all_lapsed, Turns, Leaves, Left}
+use Rattle.walks.specs.Orders.{Marks, all_lapsed, Turns, Leaves}
 use Rattle.walks.proofs.Left.{marks_left}
 use Rattle.router.specs.Worked.{Worked}
 use Rattle.shift.specs.Turns.{lent, call_of, calls_of, Says, Replied, AnswersCall, AnswersShift}

@@ -1,5 +1,5 @@
 -- Calls with the tables that they are lent. Assumes nothing.
-use Rattle.std.proofs.Common.{◌≡◌, ℕ, ◌-◌, ◌≤◌, min, List, length, take, drop, Ok, Err, Result, sym, refl, ap, ◌∙◌, subst, arith}
+use Rattle.std.proofs.Common.{◌≡◌, ℕ, ◌-◌, min, List, length, take, drop, Ok, Err, Result, ◌∙◌, arith}
 use Rattle.std.proofs.lemmas.List.{length-take-le}
 use Rattle.measure.specs.Scale.{Scale}
 use Rattle.layout.specs.Plant.{Plant}
@@ -7,7 +7,7 @@ use Rattle.layout.specs.declared.refusal.Refusal.{Refusal}
 use Rattle.search.specs.Answered.{Desk}
 use Rattle.search.specs.Answered.{Answered}
 use Rattle.search.specs.declared.found.Found.{Found}
-use Rattle.walks.specs.Book.{Call, renew, route}
+use Rattle.walks.specs.Book.{renew, route}
 use Rattle.shift.specs.Turns.{WholeWay}
 
 -- a front of a table

@@ -13,7 +13,6 @@ use Rattle.walks.proofs.Choosing.{none_some, some_same}
 use Rattle.router.specs.Routing.{seen, routing, route_answer, settled_in, Promised, KeepsPromise}
 use Rattle.router.specs.Worked.{Worked}
 use Rattle.shift.specs.Kept.{KeptAfter}
-use Rattle.shift.specs.declared.turn.Places.{Places}
 
 module _ {T : Type 0} (m : Scale T) (p : Plant) (s : Sheet) (halls : HallMarks) (calls : List Call) (start goal : ℕ) (d d' : Desk T) (way way' : List ℕ) where
   -- a route that is refused before it begins

@@ -1,9 +1,9 @@
 -- Junctions and legs of a ring. Assumes nothing.
-use Rattle.std.proofs.Common.{◌≡◌, ℕ, ◌+◌, ◌-◌, ◌<◌, ◌≤◌, Bool, true, false, cond, ltb, map, Some, None, sym, refl, ap, ◌∙◌, ⊎_elim, arith, ltb-false, ltb-true}
+use Rattle.std.proofs.Common.{◌≡◌, ℕ, ◌+◌, ◌-◌, ◌<◌, ◌≤◌, cond, map, Some, None, ap, ◌∙◌, ⊎_elim, arith}
 use Rattle.std.specs.Option.{option_map}
 use Rattle.std.specs.List.{slice_get}
 use Rattle.std.proofs.lemmas.Bool.{cases_lt, lt-ltb, le-ltb}
-use Rattle.layout.specs.Plant.{Leg, Plant}
+use Rattle.layout.specs.Plant.{Leg}
 use Rattle.layout.proofs.Listed.{nth_map}
 use Rattle.sorter.specs.Ring.{after, ring_leg, ring}
 use Rattle.sorter.specs.Limited.{nth_counted, nth_uncounted}

@@ -5,9 +5,8 @@ use Rattle.std.specs.List.{range_with_len, slice_get}
 use Rattle.std.proofs.lemmas.List.FromFn.{length-map-range_with_len, get_or-map-range_with_len}
 use Rattle.std.proofs.lemmas.Option.{slice_get-get_or, slice_get_past}
 use Rattle.std.proofs.lemmas.Bool.{cases_lt, ltb-true, leb-true, and_parts}
-use Rattle.layout.specs.Limits.{within}
-use Rattle.layout.specs.Plant.{Leg, Plant, Sound, SoundLeg}
-use Rattle.sorter.specs.Ring.{after, ring_leg, ring}
+use Rattle.layout.specs.Plant.{Sound, SoundLeg}
+use Rattle.sorter.specs.Ring.{ring_leg, ring}
 use Rattle.sorter.specs.declared.ring.SorterLoop.{SorterLoop}
 
 -- what a list made from a function of the place has at i

@@ -1,5 +1,5 @@
 -- The plant of a sorter loop. Assumes nothing.
-use Rattle.std.specs.Prelude.{ℕ, ◌+◌, ◌/◌, Bool, true, cond, map, Some, None, Option, nat_lt}
+use Rattle.std.specs.Prelude.{ℕ, ◌+◌, ◌/◌, true, cond, map, None, Option, nat_lt}
 use Rattle.std.specs.List.{range_with_len}
 use Rattle.layout.specs.Limits.{within, most_junctions, metres_fit, class_fits, clearance_fits}
 use Rattle.layout.specs.Plant.{Leg, Plant}

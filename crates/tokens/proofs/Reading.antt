@@ -1,11 +1,10 @@
 -- The numbers and the letter that a line has left.
-use Rattle.std.proofs.Common.{◌≡◌, ℕ, ◌+◌, ◌<◌, ◌≤◌, ◌⊎◌, List, [], ◌∷◌, ◌++◌, length, get_or, take, drop, set, Some, None, decimal, Option, sym, refl, ap, ◌∙◌, subst, inl, inr, ⊎_elim, append_assoc, append-nil, arith, MatchOption}
+use Rattle.std.proofs.Common.{◌≡◌, ℕ, ◌+◌, ◌<◌, ◌≤◌, List, [], ◌∷◌, ◌++◌, length, get_or, take, drop, set, Some, None, decimal, Option, sym, refl, ap, ◌∙◌, subst, inl, inr, ⊎_elim, append_assoc, append-nil, arith, MatchOption}
 use Rattle.std.specs.List.{AllByRecursion}
 use Rattle.std.proofs.lemmas.List.{take_more_set, take_more, drop_more, drop_all, take_all, length-set}
 use Rattle.tokens.specs.declared.line.Due.{Due}
 use Rattle.tokens.specs.declared.line.Line.{Line}
-use Rattle.tokens.specs.declared.line.Token.{Token}
-use Rattle.tokens.specs.declared.line.Token.TheVariants.{Key, Value}
+use Rattle.tokens.specs.declared.line.Token.TheVariants.{Value}
 use Rattle.tokens.specs.Cuts.{Lacks}
 use Rattle.tokens.specs.Taken.{Bytes, left, Takes, TakesNumber, LeftNumbers, LeftLetter}
 use Rattle.tokens.specs.Values.{Plain, Small, Numeral, written, Numbers, OneLetter}

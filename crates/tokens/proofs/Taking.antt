@@ -1,13 +1,12 @@
 -- What the token that is due can be, and that a line has at most one next token.
-use Rattle.std.proofs.Common.{◌≡◌, ℕ, ◌+◌, ◌<◌, ◌≤◌, ◌⊎◌, List, [], ◌∷◌, ◌++◌, length, get_or, take, drop, sym, refl, ap, ◌∙◌, subst, inl, inr, ⊎_elim, arith}
+use Rattle.std.proofs.Common.{◌≡◌, ℕ, ◌+◌, ◌<◌, ◌⊎◌, List, [], ◌∷◌, ◌++◌, length, get_or, take, drop, sym, refl, ap, ◌∙◌, subst, inl, inr, ⊎_elim, arith}
 use Rattle.std.specs.List.{AllByRecursion}
 use Rattle.std.proofs.ByRecursion.{All-weaker}
-use Rattle.std.proofs.lemmas.List.{take-append-drop, drop_more, take_all}
+use Rattle.std.proofs.lemmas.List.{take-append-drop, drop_more}
 use Rattle.tokens.specs.declared.line.Class.{Class}
 use Rattle.tokens.specs.declared.line.Class.TheVariants.{Digit, Comma, Letter, Other}
 use Rattle.tokens.specs.declared.line.Due.{Due}
 use Rattle.tokens.specs.declared.line.Line.{Line}
-use Rattle.tokens.specs.declared.line.Token.{Token}
 use Rattle.tokens.specs.declared.line.Token.TheVariants.{Key, Value}
 use Rattle.tokens.specs.Cuts.{Lacks, FirstAt, Cut, Keyless}
 use Rattle.tokens.specs.Taken.{Bytes, left, Takes, Stuck, OfClass, PlainUpTo, Stray}

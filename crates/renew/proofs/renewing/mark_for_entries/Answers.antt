@@ -1,10 +1,9 @@
-use Rattle.std.proofs.Common.{◌≡◌, ℕ, ◌+◌, length, sym, subst, arith}
+use Rattle.std.proofs.Common.{◌≡◌, ◌+◌, length, sym, subst, arith}
 use Rattle.std.proofs.lemmas.Bool.{both_ways}
 use Rattle.marks.specs.declared.words.Marks.{Marks}
 use Rattle.walks.specs.Net.{junctions}
 use Rattle.search.specs.Answered.{Desk}
 use Rattle.renew.specs.Flags.{FlaggedTo, Written}
-use Rattle.renew.specs.Renewed.{Past}
 use Rattle.renew.proofs.Flagging.{entry_turn, other_turn, past_then, both}
 use Rattle.renew.proofs.renewing.mark_for_entries.Goals.{then-is_entry, else-is_entry}
 use Rattle.renew.proofs.renewing.mark_for_entries.Goals as goal

@@ -1,4 +1,4 @@
-use Rattle.std.proofs.Common.{◌≡◌, ◌≤◌, length, None, ap, subst, arith}
+use Rattle.std.proofs.Common.{◌≤◌, length, None, ap, subst, arith}
 use Rattle.layout.specs.Plant.{Plant}
 use Rattle.layers.specs.Turn.{turned}
 use Rattle.walks.specs.Net.{junctions}

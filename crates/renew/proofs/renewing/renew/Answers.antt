@@ -1,4 +1,4 @@
-use Rattle.std.proofs.Common.{◌≡◌, length, None, sym, ap, ◌∙◌, rules}
+use Rattle.std.proofs.Common.{◌≡◌, length, None, ap, ◌∙◌, rules}
 use Rattle.marks.specs.Mark.{is_marked}
 use Rattle.walks.specs.Answers.{count_below}
 use Rattle.search.specs.Answered.{Desk}

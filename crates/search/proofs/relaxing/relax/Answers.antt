@@ -1,9 +1,8 @@
-use Rattle.std.proofs.Common.{◌≡◌, ℕ, suc, ◌+◌, ◌-◌, ◌<◌, ◌≤◌, List, length, sym, refl, ap, ◌∙◌, subst, add-one, arith, Fits}
+use Rattle.std.proofs.Common.{ℕ, suc, ◌+◌, ◌-◌, ◌<◌, length, sym, ◌∙◌, subst, add-one, arith}
 use Rattle.walks.specs.InTurn.{TakesTo}
 use Rattle.walks.specs.Net.{net}
 use Rattle.walks.specs.Tables.{tabled}
-use Rattle.search.specs.Queued.{waiting}
-use Rattle.search.specs.Standing.{Stands, Relaxed, TablesOf}
+use Rattle.search.specs.Standing.{TablesOf}
 use Rattle.search.proofs.Leaving.{leg_there, offer_tail}
 use Rattle.search.proofs.Relaxed.{passed_over}
 use Rattle.search.proofs.relaxing.relax.Goals as goal

@@ -1,8 +1,8 @@
-use Rattle.std.proofs.Common.{◌≡◌, ℕ, ◌<◌, ◌≤◌, List, [], length, sym, refl, ap, ◌∙◌, subst, arith}
+use Rattle.std.proofs.Common.{◌≡◌, ◌<◌, length, sym, refl, ap, ◌∙◌, subst, arith}
 use Rattle.std.proofs.lemmas.Bool.{both_ways}
-use Rattle.walks.specs.Net.{net, junctions}
+use Rattle.walks.specs.Net.{net}
 use Rattle.walks.specs.Search.{Offer, offered}
-use Rattle.walks.specs.Tables.{no_came_by, tabled}
+use Rattle.walks.specs.Tables.{no_came_by}
 use Rattle.walks.proofs.Nets.{net_finite}
 use Rattle.search.specs.Queued.{waiting}
 use Rattle.search.specs.Standing.{Offered}

@@ -1,4 +1,4 @@
-use Rattle.std.proofs.Common.{◌≡◌, ℕ, ◌+◌, ◌<◌, ◌≤◌, eqb, List, [], length, take, drop, replicate, Some, sym, refl, ap, ◌∙◌, subst, add-one, arith, rules}
+use Rattle.std.proofs.Common.{◌≡◌, ℕ, ◌+◌, eqb, List, [], length, take, drop, replicate, Some, sym, refl, ap, ◌∙◌, subst, arith, rules}
 use Rattle.std.specs.Map.{update}
 use Rattle.std.proofs.lemmas.List.{length-replicate, drop-drop}
 use Rattle.walks.specs.Net.{net, junctions}

@@ -1,4 +1,4 @@
-use Rattle.std.proofs.Common.{◌≡◌, ℕ, ◌-◌, ◌<◌, ◌≤◌, Bool, cond, [], ◌∷◌, ◌++◌, length, take, Some, None, sym, ap, ◌∙◌, arith, rules}
+use Rattle.std.proofs.Common.{◌≡◌, ◌-◌, ◌<◌, ◌≤◌, [], ◌∷◌, ◌++◌, length, Some, None, arith, rules}
 use borrow.Rule.Slice.PartMut.{post_of}
 use Rattle.walks.specs.Net.{net, junctions}
 use Rattle.walks.specs.Book.{short_table}

@@ -1,4 +1,4 @@
-use Rattle.std.proofs.Common.{◌≡◌, ℕ, ◌+◌, ◌<◌, ◌≤◌, ◌≢◌, List, [], ◌∷◌, ◌++◌, length, take, drop, set, Some, None, sym, refl, ap, ◌∙◌, subst, arith}
+use Rattle.std.proofs.Common.{ℕ, ◌+◌, ◌<◌, ◌≢◌, List, [], ◌∷◌, ◌++◌, length, take, Some, sym, refl, ◌∙◌, subst, arith}
 use Rattle.std.proofs.lemmas.List.{length-take-le, take_more_set, drop-set-lt}
 use Rattle.std.proofs.lemmas.Bool.{both_ways}
 use Rattle.walks.specs.Net.{net}
@@ -7,7 +7,6 @@ use Rattle.walks.specs.Tables.{tabled}
 use Rattle.walks.proofs.Nets.{net_finite}
 use Rattle.search.specs.Queued.{waiting}
 use Rattle.search.specs.Running.{Running}
-use Rattle.search.specs.Standing.{TablesOf}
 use Rattle.search.proofs.OneStep.{stuck_ends, place_left, longer_stands, arrived_ends, still_running}
 use Rattle.search.proofs.stepping.settle_one.Goals as goal
 

@@ -1,4 +1,4 @@
-use Rattle.std.proofs.Common.{arith, Fits}
+use Rattle.std.proofs.Common.{arith}
 use Rattle.search.proofs.Tails.{asked_tail, asked_exists, tail_asked}
 use Rattle.search.proofs.tracing.tail_of.Goals as goal
 

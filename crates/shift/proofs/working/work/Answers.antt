@@ -1,4 +1,4 @@
-use Rattle.std.proofs.Common.{◌≡◌, ◌<◌, ◌≤◌, length, sym, refl, ap, ◌∙◌, subst, arith}
+use Rattle.std.proofs.Common.{◌≡◌, ◌<◌, ◌≤◌, length, refl, ap, ◌∙◌, subst, arith}
 use Rattle.layout.specs.Plant.{Plant}
 use Rattle.shift.specs.Turns.{lent, call_of, AnswersCall}
 use Rattle.shift.specs.declared.turn.Places.{Places}

@@ -1,5 +1,4 @@
 use Rattle.std.proofs.Common.{◌≡◌, length}
-use Rattle.shift.specs.declared.turn.Places.{Places}
 use Rattle.shift.proofs.Histories.{SoFar}
 use Rattle.shift.proofs.working.work.Given as goal
 

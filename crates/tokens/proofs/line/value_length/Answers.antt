@@ -1,4 +1,3 @@
-use Rattle.std.proofs.Common.{arith}
 use Rattle.std.proofs.ByRecursion.{All-more}
 use Rattle.tokens.specs.Values.{Plain}
 use Rattle.tokens.proofs.Taking.{plain_from_class, stray_at}

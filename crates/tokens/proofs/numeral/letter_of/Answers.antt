@@ -1,4 +1,4 @@
-use Rattle.std.proofs.Common.{◌≡◌, length, get_or, refl, arith, rules}
+use Rattle.std.proofs.Common.{◌≡◌, length, rules}
 use Rattle.tokens.proofs.Reading.{one_byte}
 use Rattle.tokens.proofs.numeral.letter_of.Goals as goal
 

@@ -1,4 +1,4 @@
-use Rattle.std.proofs.Common.{◌≡◌, ◌<◌, ◌≤◌, length, get_or, arith, rules}
+use Rattle.std.proofs.Common.{◌≡◌, ◌<◌, length, get_or, arith, rules}
 use Rattle.std.proofs.lemmas.Slice.{first_rest}
 use Rattle.tokens.proofs.Decimal.{zero_numeral, digital, digits_at, numeral_from_rest}
 use Rattle.tokens.proofs.numeral.number_of.Goals as goal

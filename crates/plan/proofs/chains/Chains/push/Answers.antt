@@ -1,4 +1,4 @@
-use Rattle.std.proofs.Common.{◌≡◌, ℕ, ◌<◌, List, [], ◌∷◌, ◌++◌, length, set, Some, None, Option, sym, subst, arith}
+use Rattle.std.proofs.Common.{◌≡◌, ℕ, [], ◌∷◌, ◌++◌, set, Some, None, Option, sym, subst, arith}
 use Rattle.layout.proofs.Listed.{nth_within}
 use Rattle.plan.specs.Chained.{Chained, Last}
 use Rattle.plan.specs.declared.chains.Chains.{Chains}

@@ -1,5 +1,4 @@
-use Rattle.std.proofs.Common.{◌≡◌, ◌+◌, ◌<◌, get_or, Some, None, sym, ◌∙◌, subst, arith, rules}
-use Rattle.plan.specs.Chained.{Chained}
+use Rattle.std.proofs.Common.{◌≡◌, ◌+◌, ◌<◌, get_or, None, sym, subst, arith, rules}
 use Rattle.plan.proofs.Chaining.{Sought, left, sought_from, sought_within, left_falls}
 use Rattle.plan.proofs.chains.Chains.seek.Goals as goal
 

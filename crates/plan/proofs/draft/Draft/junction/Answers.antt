@@ -1,4 +1,4 @@
-use Rattle.std.proofs.Common.{◌≡◌, length, Some, None, Ok, Err, sym, ap, rules}
+use Rattle.std.proofs.Common.{◌≡◌, Some, None, Ok, sym, ap, rules}
 use Rattle.plan.specs.Drawn.{drawn, place_due, junction_due}
 use Rattle.plan.proofs.Entry.{points_are}
 use Rattle.plan.proofs.Passed.{place_passed}

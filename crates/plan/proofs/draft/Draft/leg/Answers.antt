@@ -1,4 +1,4 @@
-use Rattle.std.proofs.Common.{◌≡◌, length, Some, None, Ok, Err, sym, ap, rules}
+use Rattle.std.proofs.Common.{◌≡◌, Some, None, Ok, sym, ap, rules}
 use Rattle.layout.specs.Plant.{leg_of}
 use Rattle.plan.specs.Drawn.{drawn, entry_due, leg_due}
 use Rattle.plan.proofs.Entry.{points_are, count_is}

@@ -1,5 +1,5 @@
 use Rattle.std.proofs.Common.{◌≡◌, ◌+◌, ◌-◌, Some, ap, ◌∙◌, subst, arith}
-use Rattle.layout.specs.Plant.{Leg, Next, tails}
+use Rattle.layout.specs.Plant.{Next, tails}
 use Rattle.plan.specs.Drawn.{drawn}
 use Rattle.plan.proofs.Entry.{points_are, tails_exist, leaving_within, end_at}
 use Rattle.plan.proofs.drawing.Drawing.next_leaving.Goals as goal

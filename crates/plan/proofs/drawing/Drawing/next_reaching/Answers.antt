@@ -1,5 +1,5 @@
 use Rattle.std.proofs.Common.{◌≡◌, ◌+◌, ◌-◌, Some, ap, ◌∙◌, subst, arith}
-use Rattle.layout.specs.Plant.{Leg, Next, heads}
+use Rattle.layout.specs.Plant.{Next, heads}
 use Rattle.plan.specs.Drawn.{drawn}
 use Rattle.plan.proofs.Entry.{points_are, heads_exist, reaching_within, end_at}
 use Rattle.plan.proofs.drawing.Drawing.next_reaching.Goals as goal

@@ -1,5 +1,5 @@
 use Rattle.std.proofs.Common.{arith}
-use Rattle.layout.specs.Plant.{Leg, tails, heads}
+use Rattle.layout.specs.Plant.{tails, heads}
 use Rattle.plan.specs.Drawn.{drawn}
 use Rattle.plan.proofs.Entry.{laid_kept, laid_drawn, ends_are}
 use Rattle.plan.proofs.drawing.Drawing.put_leg.Goals as goal

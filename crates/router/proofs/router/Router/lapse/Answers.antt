@@ -1,7 +1,6 @@
 use Rattle.std.proofs.Common.{◌&&◌, ltb, refl, ap, ◌∙◌, subst}
 use Rattle.halls.specs.Force.{lapsing, Lapsed}
 use Rattle.walks.specs.Answers.{count_below}
-use Rattle.router.specs.Ordered.{Lapses}
 use Rattle.router.proofs.router.Router.lapse.Goals as goal
 
 pub returns : goal.returns

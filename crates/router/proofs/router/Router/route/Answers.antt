@@ -1,10 +1,9 @@
-use Rattle.std.proofs.Common.{◌≡◌, ap, ◌∙◌, subst}
+use Rattle.std.proofs.Common.{ap, ◌∙◌, subst}
 use Rattle.layers.specs.Day.{entered}
 use Rattle.marks.specs.Mark.{shown}
 use Rattle.search.specs.Answered.{Desk}
 use Rattle.search.specs.Answered.{Answered}
 use Rattle.search.specs.Counted.{AllCounted}
-use Rattle.router.specs.Routing.{seen}
 use Rattle.router.proofs.Routes.{route_goes_on, route_promised}
 use Rattle.router.proofs.router.Router.route.Goals as goal
 

@@ -1,4 +1,4 @@
-use Rattle.std.proofs.Common.{◌≡◌, Ok, Err, sym, refl, ap, ◌∙◌, subst, ap₂}
+use Rattle.std.proofs.Common.{◌≡◌, Ok, Err, refl, ap, ◌∙◌, subst, ap₂}
 use Rattle.layers.specs.Day.{entered, figured, refuses_set}
 use Rattle.layout.specs.Refused.{unless}
 use Rattle.walks.specs.Net.{weight_if_any}

@@ -1,4 +1,4 @@
-use Rattle.std.proofs.Common.{◌≡◌, ◌-◌, ◌<◌, get_or, refl, ap, arith}
+use Rattle.std.proofs.Common.{◌≡◌, ◌-◌, get_or, refl, ap, arith}
 use Rattle.std.proofs.lemmas.List.{length-set, drop-set-lt}
 use Rattle.search.proofs.Calls.{removed_total, removed_apart, removed_lowest}
 use Rattle.search.proofs.queue.Queue.take_lowest.Goals as goal

@@ -1,5 +1,4 @@
-use Rattle.std.proofs.Common.{◌≡◌, ℕ, true, Some, sym, ap, ◌∙◌, arith}
-use Rattle.layout.specs.Plant.{Leg}
+use Rattle.std.proofs.Common.{ℕ, true, Some, sym, ap, ◌∙◌, arith}
 use Rattle.sorter.specs.Ring.{ring_leg}
 use Rattle.sorter.specs.Limited.{nth_counted, nth_uncounted}
 use Rattle.sorter.proofs.ring.SorterLoop.belt.Goals as goal

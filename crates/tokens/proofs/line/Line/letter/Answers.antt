@@ -1,4 +1,3 @@
-use Rattle.std.proofs.Common.{sym, ◌∙◌}
 use Rattle.std.proofs.lemmas.Bool.{both_ways}
 use Rattle.tokens.proofs.Reading.{letter_stuck, letter_taken, letter_not_last}
 use Rattle.tokens.proofs.line.Line.letter.Goals as goal

@@ -1,5 +1,4 @@
 -- The numbers before the loop's place were found, and the others are left.
-use Rattle.std.proofs.Common.{length}
 use Rattle.tokens.proofs.Reading.{Found}
 use Rattle.tokens.proofs.line.Line.numbers.Given as goal
 
