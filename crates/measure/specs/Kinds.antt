@@ -20,11 +20,19 @@ pace_of class = slice_index paces class
 abbrev pub leg_time : Figures → ℕ
 leg_time leg = leg.metres * pace_of leg.class
 
+-- a number stopped at a limit is not above it
+pub capped : (n limit : ℕ) → min n limit ≤ limit
+capped n limit = omega arith
+
+-- and neither is the smaller of two numbers of which one is not
+pub smaller_fits : (n k limit : ℕ) → n ≤ limit → min n k ≤ limit
+smaller_fits n k limit fits = omega arith
+
 -- t: time
 
 -- the total of n tenths of a second
 abbrev pub time_of : ℕ → Tenths
-time_of n = record { tenths = min n stop; fits = omega arith }
+time_of n = record { tenths = min n stop; fits = capped n stop }
 
 -- times add up, and the smaller number is lower
 abbrev pub time_scale : Scale Tenths
@@ -39,13 +47,13 @@ time_scale = record {
 
 -- the total of n centimetres
 abbrev pub clearance_of : ℕ → Headroom
-clearance_of n = record { centimetres = min n highest; fits = omega arith }
+clearance_of n = record { centimetres = min n highest; fits = capped n highest }
 
 -- a way is as high as its lowest leg, and the larger number counts as lower
 abbrev pub clearance_scale : Scale Headroom
 clearance_scale = record {
   unit = clearance_of highest;
-  joined = λ p q. record { centimetres = min p.centimetres q.centimetres; fits = omega arith };
+  joined = λ p q. record { centimetres = min p.centimetres q.centimetres; fits = smaller_fits p.centimetres q.centimetres highest p.fits };
   below = λ p q. nat_lt q.centimetres p.centimetres;
   weighed = λ leg. clearance_of leg.clearance;
 }
@@ -77,7 +85,7 @@ abbrev pub pair_of : ℕ → ℕ → TimeTurns
 pair_of time turns = record {
   time = min time stop;
   turns = turns_at time turns;
-  timefits = omega arith;
+  timefits = capped time stop;
   turnsfit = turns_fit time turns;
   stopped = turns_stopped time turns;
 }

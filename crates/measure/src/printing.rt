@@ -1,7 +1,6 @@
 // How totals are written.
-ghost use Rattle.std.specs.Prelude.{◌≡◌, ℕ, List, Some};
+ghost use Rattle.std.specs.Prelude.{◌≡◌, ℕ, List, Some, refl};
 ghost use Rattle.measure.specs.Written.{time_written, clearance_written, turns_written};
-ghost use Rattle.std.proofs.Common.{rules, arith};
 
 use crate::measure::Measure;
 use crate::totals::{Headroom, Tenths, TimeTurns};
@@ -47,17 +46,17 @@ impl fmt::Display for TimeTurns {
 impl Printing for Tenths {
     ghost written = { time_written };
 
-    ghost shows = { first_of (Prim.search rules, Prim.grind (arith, Self.row.coded.inj)) };
+    ghost shows = { λ total. refl };
 }
 
 impl Printing for Headroom {
     ghost written = { clearance_written };
 
-    ghost shows = { first_of (Prim.search rules, Prim.grind (arith, Self.row.coded.inj)) };
+    ghost shows = { λ total. refl };
 }
 
 impl Printing for TimeTurns {
     ghost written = { turns_written };
 
-    ghost shows = { first_of (Prim.search rules, Prim.grind (arith, Self.row.coded.inj)) };
+    ghost shows = { λ total. refl };
 }

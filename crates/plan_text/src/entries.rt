@@ -1,10 +1,9 @@
 ghost use Rattle.std.specs.Prelude.{◌≡◌};
 ghost use Rattle.tokens.specs.Taken.{left};
 ghost use Rattle.tokens.specs.declared.line.Due.TheVariants.{Value};
-ghost use Rattle.plan_text.specs.Parts.{entries_heard, entries_waits};
+ghost use Rattle.plan_text.specs.Parts.{entries_heard, entries_waits, entries_asks};
 ghost use Rattle.plan_text.specs.Told.{Told};
 ghost use Rattle.plan_text.specs.Hears.{Hearing};
-ghost use Rattle.std.proofs.Common.{rules};
 
 use crate::due::Due;
 use crate::kind::Kind;
@@ -55,7 +54,7 @@ impl Listener for Entries {
 
     ghost waits = { entries_waits };
 
-    ghost asks = { Prim.search rules };
+    ghost asks = { entries_asks };
 
     fn due(&self) -> Option<Due> {
         if self.draft.junctions() < self.points {

@@ -2,10 +2,9 @@ ghost use Rattle.std.specs.Prelude.{◌≡◌, None};
 ghost use Rattle.tokens.specs.Taken.{left};
 ghost use Rattle.tokens.specs.declared.line.Due.TheVariants.{Value};
 ghost use Rattle.plan_text.specs.Heard.{silence};
-ghost use Rattle.plan_text.specs.Parts.{head_heard, head_waits, entries_heard};
+ghost use Rattle.plan_text.specs.Parts.{head_heard, head_waits, head_asks, entries_heard};
 ghost use Rattle.plan_text.specs.Told.{Told};
 ghost use Rattle.plan_text.specs.Hears.{Hearing};
-ghost use Rattle.std.proofs.Common.{rules};
 
 use crate::due::Due;
 use crate::entries::Entries;
@@ -143,7 +142,7 @@ impl Listener for Head {
 
     ghost waits = { head_waits };
 
-    ghost asks = { Prim.search rules };
+    ghost asks = { head_asks };
 
     fn due(&self) -> Option<Due> {
         if !self.version {
