@@ -10,12 +10,12 @@ use Rattle.walks.specs.Walk.{Leads, Best}
 use Rattle.search.specs.Answered.{Desk}
 use Rattle.search.specs.declared.found.Found.{Found}
 
--- so many junctions stand in the settled table, and no more than there are
+-- the list of so many at the head of the settled table is that long, and there are no fewer junctions
 pub record Counted (p : Plant) (settled : List ℕ) (count : ℕ) : Type 0 where
   pub whole_list : length (take count settled) ≡ count
   pub few : count ≤ junctions p
 
--- so many as a search for a goal answers, or as refusal 9 says
+-- so it is with the count that a search for a goal answers, and with the figure of 9, no way
 abbrev pub AllCounted : {T : Type 0} → Plant → List ℕ → Result (Found T) Refusal → Type 0
 AllCounted p settled (Ok f) = Counted p settled f.settled
 AllCounted p settled (Err r) = (count : ℕ) → r ≡ NoWay count → Counted p settled count
