@@ -4,94 +4,77 @@ use crate::rounds::run;
 use crate::tally::Tally;
 use layout::refusal::Refusal;
 use measure::{Headroom, Measure, Tenths, TimeTurns};
-use plan::draft::Plan;
+use plan_text::kind::Kind;
 use search::Slot;
-
-// What the ways are measured by.
-#[derive(Clone, Copy)]
-enum Kind {
-    Time,
-    Clearance,
-    TimeThenTurns,
-}
+use std::str::FromStr;
 
 // So many rounds of searches over one plant by one measure.
 #[derive(Clone, Copy)]
-struct Job {
+pub(crate) struct Job {
     shape: Shape,
     kind: Kind,
     rounds: u32,
 }
 
+// A text that asks for nothing known.
+#[derive(Clone, Copy, Debug)]
+pub(crate) struct NoJob;
+
 // The shape of a name.
-fn shape_named(name: &str) -> Option<Shape> {
-    match name {
-        "grid" => Some(Shape::Grid),
-        "scattered" => Some(Shape::Scattered),
-        _ => None,
+impl FromStr for Shape {
+    type Err = NoJob;
+
+    fn from_str(name: &str) -> Result<Shape, NoJob> {
+        match name {
+            "grid" => Ok(Shape::Grid),
+            "scattered" => Ok(Shape::Scattered),
+            _ => Err(NoJob),
+        }
     }
 }
 
 // The measure of a letter.
-fn kind_named(name: &str) -> Option<Kind> {
-    match name {
-        "t" => Some(Kind::Time),
-        "h" => Some(Kind::Clearance),
-        "d" => Some(Kind::TimeThenTurns),
-        _ => None,
+fn kind_of(letter: &str) -> Result<Kind, NoJob> {
+    match letter.as_bytes() {
+        [letter] => Kind::try_from(*letter).map_err(|_| NoJob),
+        _ => Err(NoJob),
     }
 }
 
-fn by_time(plan: &Plan, rounds: u32) -> Tally {
-    let total = Tenths::unit();
-    let mut totals = [total; 256];
-    let mut waiting = [Slot { total, number: 0 }; 256];
-    run(plan, rounds, &mut totals, &mut waiting)
-}
+// The job of a line, as `grid t 8`.
+impl FromStr for Job {
+    type Err = NoJob;
 
-fn by_clearance(plan: &Plan, rounds: u32) -> Tally {
-    let total = Headroom::unit();
-    let mut totals = [total; 256];
-    let mut waiting = [Slot { total, number: 0 }; 256];
-    run(plan, rounds, &mut totals, &mut waiting)
-}
-
-fn by_time_then_turns(plan: &Plan, rounds: u32) -> Tally {
-    let total = TimeTurns::unit();
-    let mut totals = [total; 256];
-    let mut waiting = [Slot { total, number: 0 }; 256];
-    run(plan, rounds, &mut totals, &mut waiting)
+    fn from_str(line: &str) -> Result<Job, NoJob> {
+        let mut words = line.split_whitespace();
+        let shape = words.next().ok_or(NoJob)?;
+        let kind = words.next().ok_or(NoJob)?;
+        let rounds = words.next().ok_or(NoJob)?;
+        Ok(Job {
+            shape: shape.parse()?,
+            kind: kind_of(kind)?,
+            rounds: rounds.parse().map_err(|_| NoJob)?,
+        })
+    }
 }
 
 impl Job {
-    // The job of a line, as `grid t 8`.
-    fn read(line: &str) -> Option<Job> {
-        let mut words = line.split_whitespace();
-        match (words.next(), words.next(), words.next()) {
-            (Some(shape), Some(kind), Some(rounds)) => {
-                Some(Job {
-                    shape: shape_named(shape)?,
-                    kind: kind_named(kind)?,
-                    rounds: rounds.parse::<u32>().ok()?,
-                })
-            }
-            _ => None,
-        }
-    }
-
     // What the searches of the job come to.
-    fn run(self) -> Result<Tally, Refusal> {
+    pub(crate) fn run(self) -> Result<Tally, Refusal> {
         let plan = draw(self.shape)?;
-        let tally = match self.kind {
-            Kind::Time => by_time(&plan, self.rounds),
-            Kind::Clearance => by_clearance(&plan, self.rounds),
-            Kind::TimeThenTurns => by_time_then_turns(&plan, self.rounds),
-        };
-        Ok(tally)
+        // kept: a macro, since an array of a type parameter's values asks for a bound on their size, which no clause can give
+        macro_rules! tally_by {
+            ($total:ty) => {{
+                let total = <$total>::unit();
+                let mut totals = [total; 256];
+                let mut waiting = [Slot { total, number: 0 }; 256];
+                run(&plan, self.rounds, &mut totals, &mut waiting)
+            }};
+        }
+        Ok(match self.kind {
+            Kind::Time => tally_by!(Tenths),
+            Kind::Clearance => tally_by!(Headroom),
+            Kind::TimeThenTurns => tally_by!(TimeTurns),
+        })
     }
-}
-
-// Does the job of a line; none where the line is no job.
-pub(crate) fn tally_of(line: &str) -> Option<Tally> {
-    Job::read(line)?.run().ok()
 }

@@ -7,12 +7,13 @@ mod plant;
 mod rounds;
 mod tally;
 
-use job::tally_of;
+use job::Job;
 use std::io;
 
 // Does the job of a line, and writes what it came to.
 fn answer(rt: &HostRuntime, line: &str) -> io::Result<()> {
-    match tally_of(line) {
+    let tally = line.parse::<Job>().ok().and_then(|job| job.run().ok());
+    match tally {
         Some(tally) => println!(rt; "{line}: {tally}"),
         None => println!(rt; "{line}: no job"),
     }

@@ -2,50 +2,19 @@
 use crate::tally::{Figure, Tally};
 use layout::limits::MOST_JUNCTIONS;
 use plan::draft::Plan;
-use search::{Slot, search};
+use search::{Slot, Tables, search};
 
-// The tables that are the same for every measure.
-#[derive(Drop)]
-struct Tables {
-    came: [u16; 256],
-    settled: [u16; 256],
-    way: [u16; 256],
-}
-
-// Searches for one way, and adds what came of it to the tally.
-fn search_one<M: Figure>(
-    plan: &Plan,
-    start: u32,
-    goal: u32,
-    totals: &mut [M],
-    waiting: &mut [Slot<M>],
-    tables: &mut Tables,
-    tally: &mut Tally,
-) {
-    let answer = search(
-        plan,
-        start,
-        goal,
-        totals,
-        &mut tables.came,
-        waiting,
-        &mut tables.settled,
-        &mut tables.way,
-    );
-    tally.add(answer, &tables.way);
-}
-
-// One round.
+// One round, with the tables and the way that are lent to it.
 fn search_all<M: Figure>(
     plan: &Plan,
     start: u32,
-    totals: &mut [M],
-    waiting: &mut [Slot<M>],
-    tables: &mut Tables,
+    tables: &mut Tables<M>,
+    way: &mut [u16],
     tally: &mut Tally,
 ) {
     for goal in 0..MOST_JUNCTIONS {
-        search_one(plan, start, goal, totals, waiting, tables, tally);
+        let answer = search(plan, start, goal, tables, way);
+        tally.add(answer, way);
     }
 }
 
@@ -56,15 +25,24 @@ pub(crate) fn run<M: Figure>(
     totals: &mut [M],
     waiting: &mut [Slot<M>],
 ) -> Tally {
+    let mut came = [0; 256];
+    let mut settled = [0; 256];
+    let mut way = [0; 256];
     let mut tables = Tables {
-        came: [0; 256],
-        settled: [0; 256],
-        way: [0; 256],
+        totals,
+        came: &mut came,
+        waiting,
+        settled: &mut settled,
     };
     let mut tally = Tally::empty();
     for round in 0..rounds {
-        let start = round % MOST_JUNCTIONS;
-        search_all(plan, start, totals, waiting, &mut tables, &mut tally);
+        search_all(
+            plan,
+            round % MOST_JUNCTIONS,
+            &mut tables,
+            &mut way,
+            &mut tally,
+        );
     }
     tally
 }

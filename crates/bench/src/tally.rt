@@ -11,21 +11,21 @@ pub(crate) trait Figure: Measure {
 
 impl Figure for Tenths {
     fn figure(self) -> u64 {
-        self.tenths as u64
+        u64::from(self.tenths)
     }
 }
 
 impl Figure for Headroom {
     fn figure(self) -> u64 {
-        self.centimetres as u64
+        u64::from(self.centimetres)
     }
 }
 
 impl Figure for TimeTurns {
     fn figure(self) -> u64 {
-        (self.time as u64)
+        u64::from(self.time)
             .wrapping_mul(1000)
-            .wrapping_add(self.turns as u64)
+            .wrapping_add(u64::from(self.turns))
     }
 }
 
@@ -54,7 +54,7 @@ impl Tally {
     // A way in the checksum: the first legs of the table.
     fn mix_way(&mut self, way: &[u16], legs: u32) {
         for leg in way.iter().take(legs as usize) {
-            self.mix(*leg as u64);
+            self.mix(u64::from(*leg));
         }
     }
 
@@ -74,8 +74,8 @@ impl Tally {
             }
             Err(refusal) => refusal.figure(),
         };
-        self.settled = self.settled.wrapping_add(settled as u64);
-        self.mix(settled as u64);
+        self.settled = self.settled.wrapping_add(u64::from(settled));
+        self.mix(u64::from(settled));
     }
 }
 

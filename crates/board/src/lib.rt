@@ -9,12 +9,10 @@ use std::io;
 use std::io::Write;
 use tokens::next_line;
 
-// A refusal: its number and its figure.
+// A refusal, on its two lines.
+// kept: writing stands in functions of its own, since a write and a return beside a reading that is taken apart are not covered.
 fn write_refusal<W: Write>(out: &mut W, refusal: Refusal) -> io::Result<()> {
-    let number = refusal.number();
-    let figure = refusal.figure();
-    writeln!(out, "refused={number}")?;
-    writeln!(out, "figure={figure}")
+    writeln!(out, "{refusal}")
 }
 
 // What a plan holds: junctions, legs and halls.
@@ -26,6 +24,7 @@ fn write_plan<W: Write>(out: &mut W, plan: &Plan) -> io::Result<()> {
 }
 
 // The lines after a plan of so many lines: no order is known yet, so none of them is due.
+// kept: `replies` goes through lines so too, but carries them out; what both do is the loop alone.
 fn refuse_orders<W: Write>(out: &mut W, orders: &[u8], lines: u32) -> io::Result<()> {
     let mut rest = orders;
     let mut line = lines;
@@ -46,9 +45,10 @@ pub fn answer<W: Write>(out: &mut W, text: &[u8]) -> io::Result<()> {
     if let Some(refusal) = reading.refusal {
         return write_refusal(out, refusal);
     }
+    let rest = reading.rest;
+    let lines = reading.lines;
     if let Some(draft) = reading.draft {
         write_plan(out, &draft.finish())?;
     }
-    let rest = reading.rest;
-    refuse_orders(out, &text[rest..], reading.lines)
+    refuse_orders(out, &text[rest..], lines)
 }

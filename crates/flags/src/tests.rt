@@ -8,7 +8,7 @@ use marks::words::Marks;
 use measure::{Headroom, Tenths};
 use plan::draft::{Draft, Plan};
 use renew::renew;
-use search::Slot;
+use search::{Slot, Tables};
 use std::test::Fail;
 
 // A leg by its ends, metres, class, clearance and turn.
@@ -24,6 +24,7 @@ fn belt(tail: u32, head: u32, metres: u32, class: u32, clearance: u32, turn: u32
 }
 
 // Five junctions in two halls, with a quick way and a high way from 0 to 4.
+// kept: each crate of tests draws its own plant, to be read alone.
 fn two_halls() -> Result<Plan, Refusal> {
     let mut draft = Draft::begin(2)?;
     for hall in [0, 0, 0, 1, 1] {
@@ -65,15 +66,13 @@ fn renew_by_time<L: Layout>(
     let slot = Slot { total, number: 0 };
     let mut settled = [9; 7];
     let places = last.min(7);
-    renew(
-        layout,
-        marks,
-        hall,
-        &mut [total; 7],
-        &mut [7; 7],
-        &mut [slot; 7],
-        &mut settled[..places],
-    )
+    let mut tables = Tables {
+        totals: &mut [total; 7],
+        came: &mut [7; 7],
+        waiting: &mut [slot; 7],
+        settled: &mut settled[..places],
+    };
+    renew(layout, marks, hall, &mut tables)
 }
 
 #[test]
@@ -95,15 +94,13 @@ fn by_clearance(rt: HostRuntime) -> Result<(), Fail> {
     let total = Headroom { centimetres: 7 };
     let slot = Slot { total, number: 0 };
     let mut marks = Marks::lapsed();
-    let count = renew(
-        &plan,
-        &mut marks,
-        1,
-        &mut [total; 5],
-        &mut [7; 5],
-        &mut [slot; 5],
-        &mut [9; 5],
-    );
+    let mut tables = Tables {
+        totals: &mut [total; 5],
+        came: &mut [7; 5],
+        waiting: &mut [slot; 5],
+        settled: &mut [9; 5],
+    };
+    let count = renew(&plan, &mut marks, 1, &mut tables);
     assert_eq!(rt; count, Ok(4));
     assert_eq!(rt; marked(&marks, 1), [false, true, true, true, true, false]);
     Ok(())

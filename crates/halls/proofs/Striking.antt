@@ -1,8 +1,9 @@
 -- Halls lapse one after the other. Assumes nothing.
-use Rattle.std.proofs.Common.{◌≡◌, ℕ, zero, suc, ◌+◌, ◌-◌, ◌≤◌, min, Bool, true, false, not, ◌&&◌, ◌||◌, eqb, ltb, get_or, replicate, sym, refl, ap, ◌∙◌, ⊎_elim, arith}
-use Rattle.std.proofs.lemmas.Bool.{cases_eq, cases_lt, eq-eqb, ne_eqb, lt-ltb, le-ltb, and_left, and_right}
+use Rattle.std.proofs.Common.{◌≡◌, ℕ, ◌+◌, ◌-◌, ◌≤◌, min, Bool, true, false, ◌&&◌, ◌||◌, eqb, ltb, sym, refl, ap, ◌∙◌, ⊎_elim, arith}
+use Rattle.std.proofs.lemmas.Bool.{cases_lt}
+use Rattle.std.proofs.lemmas.Bool.Decides.{nat_tests}
 use Rattle.layout.specs.Limits.{most_halls}
-use Rattle.marks.specs.Mark.{is_marked, possible}
+use Rattle.marks.specs.Mark.{is_marked}
 use Rattle.walks.specs.Answers.{count_below}
 use Rattle.halls.proofs.Counted.{count_yes, count_no, count_past}
 use Rattle.halls.specs.Force.{in_force, struck, lapsing, Lapsed}
@@ -14,81 +15,26 @@ use Rattle.halls.specs.declared.force.Strikes.TheVariants as order
 abbrev pub Below : ℕ → (ℕ → Bool) → ℕ → Bool
 Below i test h = ltb h i && test h
 
-none_out : (f : Bool) → f ≡ (f && not false)
-none_out true = refl
-none_out false = refl
-
-none_in : (a : Bool) → a ≡ (a || false)
-none_in true = refl
-none_in false = refl
-
 pub lapsed_first : (test : ℕ → Bool) (m : HallMarks) → Lapsed (Below 0 test) m m
-lapsed_first test m =
-    let off : (h : ℕ) → Below 0 test h ≡ false = λ h. and_left _ _ (le-ltb h 0 (omega arith)) in
-    record {
-      force = λ h. none_out (in_force m.force h) ∙ ap (λ b. in_force m.force h && not b) (sym (off h));
-      marks = λ h e. none_in (is_marked m.marks h e) ∙ ap (λ b. is_marked m.marks h e || (b && possible h e)) (sym (off h));
-    }
+lapsed_first test m = record { force = λ h. grind (arith, nat_tests); marks = λ h e. grind (arith, nat_tests) }
 
 -- lapsing goes by which halls pass
 pub lapsed_same : (out other : ℕ → Bool) (old new : HallMarks) → ((h : ℕ) → out h ≡ other h) → Lapsed out old new → Lapsed other old new
-lapsed_same out other old new same l =
-    record {
-      force = λ h. l.force h ∙ ap (λ b. in_force old.force h && not b) (same h);
-      marks = λ h e. l.marks h e ∙ ap (λ b. is_marked old.marks h e || (b && possible h e)) (same h);
-    }
-
-out_twice : (f o p : Bool) → ((f && not o) && not p) ≡ (f && not (o || p))
-out_twice true true p = refl
-out_twice true false p = refl
-out_twice false o p = refl
-
-in_twice : (a o p q : Bool) → ((a || (o && q)) || (p && q)) ≡ (a || ((o || p) && q))
-in_twice true o p q = refl
-in_twice false true true true = refl
-in_twice false true true false = refl
-in_twice false true false true = refl
-in_twice false true false false = refl
-in_twice false false p q = refl
+lapsed_same out other old new same l = record { force = λ h. grind (arith, l.force h, same h); marks = λ h e. grind (arith, l.marks h e, same h) }
 
 -- some lapse, and then others
 pub lapsed_then : (out more : ℕ → Bool) (old mid new : HallMarks) → Lapsed out old mid → Lapsed more mid new → Lapsed (λ h. out h || more h) old new
-lapsed_then out more old mid new first then =
-    record {
-      force = λ h. then.force h ∙ ap (λ b. b && not (more h)) (first.force h) ∙ out_twice (in_force old.force h) (out h) (more h);
-      marks = λ h e. then.marks h e ∙ ap (λ b. b || (more h && possible h e)) (first.marks h e) ∙ in_twice (is_marked old.marks h e) (out h) (more h) (possible h e);
-    }
+lapsed_then out more old mid new first then = record {
+  force = λ h. grind (arith, nat_tests, first.force h, then.force h);
+  marks = λ h e. grind (arith, nat_tests, first.marks h e, then.marks h e);
+}
 
--- the hall at i passes
+-- the hall at i passes, or it does not
 pub below_yes : (i : ℕ) (test : ℕ → Bool) → test i ≡ true → (h : ℕ) → (Below i test h || eqb h i) ≡ Below (i + 1) test h
-below_yes i test e h =
-    ⊎_elim
-    (λ same.
-    ap (λ b. (b && test h) || eqb h i) (le-ltb h i (omega (arith, same))) ∙ eq-eqb h i same
-    ∙ sym (ap (λ b. b && test h) (lt-ltb h (i + 1) (omega (arith, same))) ∙ ap test same ∙ e))
-    (λ apart. ap (λ b. Below i test h || b) (ne_eqb h i apart) ∙ sym (none_in (Below i test h)) ∙ below_other i test h apart)
-    (cases_eq h i)
-  where
-    below_other : (i : ℕ) (test : ℕ → Bool) (h : ℕ) → (h ≡ i → ⊥) → Below i test h ≡ Below (i + 1) test h
-    below_other i test h apart =
-        ⊎_elim
-        (λ low. ap (λ b. b && test h) (lt-ltb h i low ∙ sym (lt-ltb h (i + 1) (omega (arith, low)))))
-        (λ high. ap (λ b. b && test h) (le-ltb h i high ∙ sym (le-ltb h (i + 1) (omega (arith, high, apart)))))
-        (cases_lt h i)
+below_yes i test e h = grind (arith, nat_tests)
 
--- it does not
 pub below_no : (i : ℕ) (test : ℕ → Bool) → test i ≡ false → (h : ℕ) → Below i test h ≡ Below (i + 1) test h
-below_no i test e h =
-    ⊎_elim
-    (λ same.
-    ap (λ b. b && test h) (le-ltb h i (omega (arith, same)))
-    ∙ sym (ap (λ b. b && test h) (lt-ltb h (i + 1) (omega (arith, same))) ∙ ap test same ∙ e))
-    (λ apart.
-    ⊎_elim
-    (λ low. ap (λ b. b && test h) (lt-ltb h i low ∙ sym (lt-ltb h (i + 1) (omega (arith, low)))))
-    (λ high. ap (λ b. b && test h) (le-ltb h i high ∙ sym (le-ltb h (i + 1) (omega (arith, high, apart)))))
-    (cases_lt h i))
-    (cases_eq h i)
+below_no i test e h = grind (arith, nat_tests)
 
 struck_same : (s : Strikes) (a b : ℕ → Bool) → ((e : ℕ) → a e ≡ b e) → struck s a ≡ struck s b
 struck_same order.None a b same = refl
@@ -98,14 +44,13 @@ struck_same order.Every a b same = refl
 -- a hall that has not lapsed yet is struck as it was before the others lapsed
 pub struck_yet : (s : Strikes) (i : ℕ) (test : ℕ → Bool) (old mid : HallMarks) → Lapsed (Below i test) old mid → lapsing mid s i ≡ lapsing old s i
 struck_yet s i test old mid l =
-    let off : Below i test i ≡ false = and_left _ _ (le-ltb i i (omega arith)) in
-    let force : in_force mid.force i ≡ in_force old.force i = l.force i ∙ ap (λ b. in_force old.force i && not b) off ∙ sym (none_out (in_force old.force i)) in
-    let marks : (e : ℕ) → is_marked mid.marks i e ≡ is_marked old.marks i e = λ e. l.marks i e ∙ ap (λ b. is_marked old.marks i e || (b && possible i e)) off ∙ sym (none_in (is_marked old.marks i e)) in
+    let force : in_force mid.force i ≡ in_force old.force i = grind (arith, nat_tests, l.force i) in
+    let marks : (e : ℕ) → is_marked mid.marks i e ≡ is_marked old.marks i e = λ e. grind (arith, nat_tests, l.marks i e) in
     ap (λ b. b && struck s (is_marked mid.marks i)) force ∙ ap (λ b. in_force old.force i && b) (struck_same s (is_marked mid.marks i) (is_marked old.marks i) marks)
 
 -- no hall past the last that a layout can have is in force
 pub none_past : (m : HallMarks) (s : Strikes) (i : ℕ) → most_halls ≤ i → lapsing m s i ≡ false
-none_past m s i far = and_left _ _ (and_left _ _ (le-ltb i most_halls far))
+none_past m s i far = grind (arith, nat_tests)
 
 -- the turn of a hall that is struck
 pub turn_yes :
@@ -130,11 +75,7 @@ turn_no s old mid i count (counted, before) missed =
     (counted ∙ sym (count_no i test here), lapsed_same _ _ old mid (below_no i test here) before)
 
 past : (test : ℕ → Bool) (k n : ℕ) → k ≤ n → ((i : ℕ) → k ≤ i → test i ≡ false) → (h : ℕ) → Below k test h ≡ Below n test h
-past test k n le none h =
-    ⊎_elim
-    (λ low. ap (λ b. b && test h) (lt-ltb h k low ∙ sym (lt-ltb h n (omega (arith, low, le)))))
-    (λ high. ap (λ b. b && test h) (le-ltb h k high) ∙ sym (and_right (ltb h n) (test h) (none h high)))
-    (cases_lt h k)
+past test k n le none h = grind (arith, nat_tests, none h)
 
 -- after the last turn
 pub all_turns :
@@ -154,9 +95,3 @@ all_turns s old new halls i count last (counted, lapsed) =
       lapsed_same _ _ old new (λ h. ap (λ n. Below n test h) e ∙ past test most_halls halls many (none_past old s) h) lapsed,
     ))
     (cases_lt halls most_halls)
-
--- no hall is in force whose signs are all off
-pub all_off : (n h : ℕ) → get_or (replicate n false) h false ≡ false
-all_off zero h = refl
-all_off (suc n) zero = refl
-all_off (suc n) (suc h) = all_off n h

@@ -9,7 +9,7 @@ use Rattle.halls.specs.declared.force.Strikes.TheVariants as order
 
 -- a hall is in force
 abbrev pub in_force : Force → ℕ → Bool
-in_force f hall = nat_lt hall most_halls && slice_index_or f.signs.on hall false
+in_force f hall = nat_lt hall most_halls && slice_index_or f.on hall false
 
 -- an order strikes a hall with these marks
 abbrev pub struck : Strikes → (ℕ → Bool) → Bool

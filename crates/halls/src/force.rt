@@ -3,17 +3,11 @@ ghost use Rattle.layout.specs.Limits.{most_halls};
 
 use marks::words::Marks;
 
-// A sign for each hall.
-#[derive(Drop)]
-pub struct Signs {
-    pub(crate) on: [bool; 32],
-}
-
-// Which halls are in force. A hall that is not in force is lapsed.
+// Which halls are in force: a sign for each. A hall that is not in force is lapsed.
 #[derive(Drop)]
 pub struct Force {
-    pub(crate) signs: Signs,
-    ghost all: { length signs.on ≡ most_halls },
+    pub(crate) on: [bool; 32],
+    ghost all: { length on ≡ most_halls },
 }
 
 // The marks of all halls, and which halls are in force.

@@ -5,11 +5,12 @@ ghost use Rattle.marks.specs.Mark.{is_marked, possible};
 ghost use Rattle.walks.specs.Answers.{count_below};
 ghost use Rattle.halls.specs.Force.{in_force, lapsing, Lapsed};
 
-use crate::force::{Force, HallMarks, Signs, Strikes};
+use crate::force::{Force, HallMarks, Strikes};
 use layout::limits::{MOST_HALLS, MOST_LEGS};
 use marks::words::Marks;
 
 // Marks every leg for a hall.
+// kept: the loop counts the legs' numbers, as was asked for of loops over marks.
 fn mark_all(marks: &mut Marks, hall: u32)
     ensures { (h e : ℕ) → is_marked marks.new h e ≡ (if nat_eq h hall then possible h e else is_marked marks.old h e) }
 {
@@ -23,24 +24,23 @@ impl Force {
     pub fn none() -> Force
         ensures { (h : ℕ) → in_force result h ≡ false }
     {
-        Force {
-            signs: Signs { on: [false; 32] },
-        }
+        Force { on: [false; 32] }
     }
 
     // Whether a hall is in force. A hall that no layout can have never is.
     pub fn has(&self, hall: u32) -> bool
         ensures { result ≡ in_force self.now hall }
     {
-        hall < MOST_HALLS && self.signs.on[hall as usize]
+        self.on.get(hall as usize).copied().unwrap_or(false)
     }
 
     // Puts a hall in force, or takes it out; every other hall stays as it is.
     pub fn put(&mut self, hall: u32, on: bool)
         ensures { (h : ℕ) → in_force self.new h ≡ (if nat_eq h hall then nat_lt hall most_halls && on else in_force self.old h) }
     {
+        // kept: a test and an index; after a write through get_mut the length of `on` is not known (invariant_of-self).
         if hall < MOST_HALLS {
-            self.signs.on[hall as usize] = on;
+            self.on[hall as usize] = on;
         }
     }
 }
@@ -78,6 +78,7 @@ impl HallMarks {
     }
 
     // Of so many halls, those that are in force and that the order strikes lapse; the answer is how many.
+    // kept: the loop counts the halls' numbers, as was asked for of lapsing.
     pub fn lapse(&mut self, halls: u32, strikes: Strikes) -> u32
         ensures count { result ≡ count_below halls (lapsing self.old strikes) }
         ensures lapsed { Lapsed (λ h. nat_lt h halls && lapsing self.old strikes h) self.old self.new }

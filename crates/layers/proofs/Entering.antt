@@ -5,16 +5,16 @@ use Rattle.std.specs.List.{slice_get}
 use Rattle.std.proofs.lemmas.List.{get_or-set_same, get_or-set_other, length-set, length-replicate}
 use Rattle.std.proofs.lemmas.Bool.{and_from, cases_eq, eq-eqb, ne_eqb, cond-true, cond-false}
 use Rattle.layout.specs.Limits.{most_legs, class_fits, clearance_fits}
-use Rattle.layout.specs.Plant.{Leg, Plant}
+use Rattle.layout.specs.Plant.{Leg, Plant, tails, heads}
 use Rattle.layout.specs.Refused.{answered, unless}
 use Rattle.layers.specs.Day.{Wide, Fit, in_range, is_shut, replacing, blank, entered, entered_leg, signed, figured, open_in, standing, refigured, refuses_sign, refuses_set, Signs, Sets}
 use Rattle.layers.specs.Relegged.{with_leg}
 use Rattle.layers.specs.declared.sheet.Replaced.{Replaced}
 use Rattle.layers.specs.declared.sheet.Sheet.{Sheet}
-use Rattle.layers.proofs.Relegging.{relegged_same, relegged_alike, relegged_twice}
+use Rattle.layers.proofs.Relegging.{figures_changed, relegged_same, relegged_alike, relegged_twice}
 
 -- one value everywhere, at a place and past the end
-all_same : {X : Type 0} (n k : ℕ) (x : X) → get_or (replicate n x) k x ≡ x
+pub all_same : {X : Type 0} (n k : ℕ) (x : X) → get_or (replicate n x) k x ≡ x
 all_same zero k x = refl
 all_same (suc n) zero x = refl
 all_same (suc n) (suc k) x = all_same n k x
@@ -24,6 +24,13 @@ blank_wide = (length-replicate 512 false, length-replicate {A = Option Replaced}
 
 pub blank_fit : Fit blank
 blank_fit k = ap in_range (all_same most_legs k None)
+
+-- a sheet changes no end of a leg
+pub entered_tails : (s : Sheet) (p : Plant) → tails (entered s p) ≡ tails p
+entered_tails s p = figures_changed (entered_leg s) (λ l. l.tail) (λ l. l.tail) (λ k l. refl) 0 p.legs
+
+pub entered_heads : (s : Sheet) (p : Plant) → heads (entered s p) ≡ heads p
+entered_heads s p = figures_changed (entered_leg s) (λ l. l.head) (λ l. l.head) (λ k l. refl) 0 p.legs
 
 and_true : (b : Bool) → (b && true) ≡ b
 and_true true = refl

@@ -6,6 +6,8 @@ use crate::day::DaySheet;
 use layout::asking::Layout;
 
 // A layout with its day sheet means the layout below with the sheet entered.
+// kept: `class` and `clearance` are a question for each figure, as was asked for; questions that it does not alter are handed on one by one; an impl for all that hand questions on clashes with that of a lent layout.
+#[tactic(auto, using(crate::proofs::Relegging::figure_changed, crate::specs::Soundness::length_changed, crate::proofs::Entering::entered_tails, crate::proofs::Entering::entered_heads))]
 impl<L: Layout> Layout for DaySheet<L> {
     ghost meaning = { λ d. entered d.sheet (L.Layout.meaning d.below) };
 
@@ -41,12 +43,12 @@ impl<L: Layout> Layout for DaySheet<L> {
 
     fn class(&self, leg: u32) -> Option<u32> {
         let own = self.below.class(leg)?;
-        Some(self.sheet.class_of(leg, own))
+        Some(self.sheet.replacing(leg).map_or(own, |by| by.class))
     }
 
     fn clearance(&self, leg: u32) -> Option<u32> {
         let own = self.below.clearance(leg)?;
-        Some(self.sheet.clearance_of(leg, own))
+        Some(self.sheet.replacing(leg).map_or(own, |by| by.clearance))
     }
 
     fn turn(&self, leg: u32) -> Option<u32> {
@@ -54,8 +56,7 @@ impl<L: Layout> Layout for DaySheet<L> {
     }
 
     fn is_open(&self, leg: u32) -> Option<bool> {
-        let own = self.below.is_open(leg)?;
-        Some(self.sheet.leaves_open(leg, own))
+        Some(self.below.is_open(leg)? && !self.sheet.is_shut(leg))
     }
 
     fn leaving(&self, junction: u32, from: u32) -> Option<u32> {

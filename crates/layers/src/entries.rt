@@ -29,20 +29,14 @@ impl<L: Layout> DaySheet<L> {
     pub fn take_off(self) -> L
         ensures { result ≡ self.below }
     {
-        let DaySheet { below, sheet } = self;
-        drop(sheet);
-        below
+        self.below
     }
 
     // Whether a leg is shut on the sheet, whatever it is below.
     pub fn is_shut(&self, leg: u32) -> Option<bool>
         ensures { result ≡ then_some (nat_lt leg (length (L.Layout.meaning self.now.below).legs)) (is_shut self.now.sheet leg) }
     {
-        if leg < self.below.legs() {
-            Some(self.sheet.shut[leg as usize])
-        } else {
-            None
-        }
+        (leg < self.below.legs()).then_some(self.sheet.is_shut(leg))
     }
 
     // Puts a leg's sign on or takes it off.

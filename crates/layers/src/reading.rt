@@ -1,39 +1,21 @@
-// What a sheet makes of a leg's own figures.
-ghost use Rattle.std.specs.Prelude.{◌≡◌, ◌<◌, not, ◌&&◌};
-ghost use Rattle.std.specs.Option.{option_map, unwrap_or};
-ghost use Rattle.layout.specs.Limits.{most_legs};
+// What a sheet has of a leg.
+ghost use Rattle.std.specs.Prelude.{◌≡◌};
 ghost use Rattle.layers.specs.Day.{is_shut, replacing};
 
-use crate::sheet::Sheet;
+use crate::sheet::{Replaced, Sheet};
 
 impl Sheet {
-    // The class of a leg that has its own from below.
-    pub(crate) fn class_of(&self, leg: u32, own: u32) -> u32
-        requires { leg < most_legs }
-        ensures { result ≡ unwrap_or (option_map (λ by. by.class) (replacing self.now leg)) own }
+    // The figures that replace a leg's own, if any do.
+    pub(crate) fn replacing(&self, leg: u32) -> Option<Replaced>
+        ensures { result ≡ replacing self.now leg }
     {
-        match self.replaced[leg as usize] {
-            Some(by) => by.class,
-            None => own,
-        }
+        self.replaced.get(leg as usize).copied().flatten()
     }
 
-    // The clearance of a leg that has its own from below.
-    pub(crate) fn clearance_of(&self, leg: u32, own: u32) -> u32
-        requires { leg < most_legs }
-        ensures { result ≡ unwrap_or (option_map (λ by. by.clearance) (replacing self.now leg)) own }
+    // Whether a leg is shut on the sheet.
+    pub(crate) fn is_shut(&self, leg: u32) -> bool
+        ensures { result ≡ is_shut self.now leg }
     {
-        match self.replaced[leg as usize] {
-            Some(by) => by.clearance,
-            None => own,
-        }
-    }
-
-    // Whether a leg is open that is open or shut below.
-    pub(crate) fn leaves_open(&self, leg: u32, own: bool) -> bool
-        requires { leg < most_legs }
-        ensures { result ≡ (own && not (is_shut self.now leg)) }
-    {
-        own && !self.shut[leg as usize]
+        self.shut.get(leg as usize).copied().unwrap_or(false)
     }
 }

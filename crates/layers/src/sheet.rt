@@ -6,6 +6,7 @@ pub struct Replaced {
 }
 
 // What a day sheet has of each leg: the sign that it is shut, and the figures that replace its own.
+// kept: a plain struct of two tables of a fixed size, as was asked for; the library allocates nothing.
 #[derive(Drop)]
 pub struct Sheet {
     pub(crate) shut: [bool; 512],

@@ -23,11 +23,13 @@ impl<L: Layout> Turned<L> {
     pub fn take_off(self) -> L
         ensures { result ≡ self.below }
     {
-        let Turned { below } = self;
-        below
+        self.below
     }
 }
 
+// The turned layer means the layout below with every leg turned.
+// kept: questions are handed on one by one; an impl for all that hand questions on clashes with that of a lent layout.
+#[tactic(auto, using(crate::proofs::Relegging::figure_changed, crate::specs::Soundness::length_changed, crate::proofs::Turning::turned_tails, crate::proofs::Turning::turned_heads))]
 impl<L: Layout> Layout for Turned<L> {
     ghost meaning = { λ t. turned (L.Layout.meaning t.below) };
 

@@ -1,5 +1,5 @@
 -- Refusals: their numbers and figures, and the order of a call's checks. Assumes nothing.
-use Rattle.std.specs.Prelude.{ℕ, Bool, cond, Some, None, Ok, Err, Option, Result}
+use Rattle.std.specs.Prelude.{ℕ, Bool, cond, List, ◌∷◌, ◌++◌, Some, None, Ok, Err, Option, Result, codes, decimal}
 use Rattle.layout.specs.declared.refusal.Refusal.{Refusal}
 use Rattle.layout.specs.declared.refusal.Refusal.TheVariants.{NotDue, WrongForm, OutOfRange, Full, NotEntered, NoLeg, NoHall, NoJunction, NoWay, ShortTable, Already, NoEnd, TooLong}
 
@@ -32,6 +32,10 @@ number_of r = (shown r).number
 
 abbrev pub figure_of : Refusal → ℕ
 figure_of r = (shown r).figure
+
+-- how a refusal is written: its number on a line, and its figure on the next, whose end is not written
+abbrev pub refusal_written : Refusal → List ℕ
+refusal_written r = codes "refused=" ++ (decimal (number_of r) ++ (10 ∷ (codes "figure=" ++ decimal (figure_of r))))
 
 -- the refusal of a call that a line of text made: the line stands where a position stood
 abbrev pub in_line : ℕ → Refusal → Refusal

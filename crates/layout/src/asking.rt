@@ -3,19 +3,9 @@ ghost use Rattle.std.specs.List.{slice_get};
 ghost use Rattle.std.specs.Option.{option_map};
 ghost use Rattle.layout.specs.Plant.{Plant, Sound, tails, heads, Next};
 
-// Whether the answer is this number.
-fn names(answer: Option<u32>, number: u32) -> bool
-    ensures found { result ≡ true → answer ≡ Some number }
-    ensures other { result ≡ false → answer ≢ Some number }
-{
-    match answer {
-        Some(n) => n == number,
-        None => false,
-    }
-}
-
 // A layout: junctions, each in one hall, and one-way legs between them, as questions that alter nothing.
 // Junctions, legs and halls are numbered from 0. A question about one past the end has no figure to give.
+// kept: a question for each figure, which answers a plain number, is the form that was asked for; no question answers a whole leg.
 pub trait Layout {
     // What the layout means.
     ghost meaning: { Self → Plant };
@@ -67,27 +57,18 @@ pub trait Layout {
     fn is_open(&self, leg: u32) -> Option<bool>
         ensures { result ≡ option_map (λ l. l.is_open) (slice_get (meaning self.now).legs leg) };
 
+    // kept: the two below differ in the question they ask of a leg; a helper that takes it as a closure is longer than both bodies.
     // The least leg at or after a number that leaves the junction. This body looks at each leg; a layout that keeps an index answers at once.
     fn leaving(&self, junction: u32, from: u32) -> Option<u32>
         ensures { Next (tails (meaning self.now)) junction from result }
     {
-        for leg in from..self.legs() {
-            if names(self.tail(leg), junction) {
-                return Some(leg);
-            }
-        }
-        None
+        (from..self.legs()).find(|leg| self.tail(*leg) == Some(junction))
     }
 
     // The least leg at or after a number that reaches the junction.
     fn reaching(&self, junction: u32, from: u32) -> Option<u32>
         ensures { Next (heads (meaning self.now)) junction from result }
     {
-        for leg in from..self.legs() {
-            if names(self.head(leg), junction) {
-                return Some(leg);
-            }
-        }
-        None
+        (from..self.legs()).find(|leg| self.head(*leg) == Some(junction))
     }
 }

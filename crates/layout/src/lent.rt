@@ -3,6 +3,7 @@ ghost use Rattle.std.specs.Prelude.{◌≡◌};
 use crate::asking::Layout;
 
 // A layout that is lent answers as the layout does.
+// kept: each question is handed on by a line of its own; one impl for all that hand questions on clashes with this one, and a macro may write no impl.
 impl<L: Layout> Layout for &L {
     ghost meaning = { λ l. L.Layout.meaning l.now };
 

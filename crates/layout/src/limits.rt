@@ -1,4 +1,5 @@
 // The limits of a layout and the ranges of a leg's figures, each in one place.
+// kept: a function for each range, since callers name the figure; one function with the ends as parameters would have them name numbers.
 ghost use Rattle.std.specs.Prelude.{◌≡◌};
 ghost use Rattle.layout.specs.Limits.{halls_fit, metres_fit, class_fits, clearance_fits, turn_fits};
 
@@ -15,14 +16,14 @@ pub const MOST_LEGS: u32 = 512;
 pub fn halls_fit(halls: u32) -> bool
     ensures { result ≡ halls_fit halls }
 {
-    1 <= halls && halls <= MOST_HALLS
+    (1..=MOST_HALLS).contains(&halls)
 }
 
 // Whether a leg can be so many metres long.
 pub fn metres_fit(metres: u32) -> bool
     ensures { result ≡ metres_fit metres }
 {
-    1 <= metres && metres <= 1000
+    (1..=1000).contains(&metres)
 }
 
 // Whether there is such a drive class.
@@ -36,7 +37,7 @@ pub fn class_fits(class: u32) -> bool
 pub fn clearance_fits(clearance: u32) -> bool
     ensures { result ≡ clearance_fits clearance }
 {
-    1 <= clearance && clearance <= 500
+    (1..=500).contains(&clearance)
 }
 
 // Whether a leg can have this turn figure.

@@ -1,5 +1,7 @@
-ghost use Rattle.std.specs.Prelude.{◌≡◌};
-ghost use Rattle.layout.specs.Refused.{number_of, figure_of, in_line};
+ghost use Rattle.std.specs.Prelude.{◌≡◌, Some};
+ghost use Rattle.layout.specs.Refused.{number_of, figure_of, in_line, refusal_written};
+
+use std::fmt;
 
 // Why a call was refused. Each case holds the figure that is shown with its number; `number` and `figure` give both.
 #[derive(Clone, Copy, PartialEq, Eq, Debug)]
@@ -34,6 +36,7 @@ pub enum Refusal {
 
 impl Refusal {
     // The number that the board shows.
+    // kept: a case with a figure has no number of its own to be cast, so this table says each.
     pub fn number(self) -> u32
         ensures { result ≡ number_of self }
     {
@@ -59,19 +62,19 @@ impl Refusal {
         ensures { result ≡ figure_of self }
     {
         match self {
-            Refusal::NotDue(line) => line,
-            Refusal::WrongForm(line) => line,
-            Refusal::OutOfRange(place) => place,
-            Refusal::Full(places) => places,
-            Refusal::NotEntered(end) => end,
-            Refusal::NoLeg(leg) => leg,
-            Refusal::NoHall(hall) => hall,
-            Refusal::NoJunction(which) => which,
-            Refusal::NoWay(settled) => settled,
-            Refusal::ShortTable(table) => table,
-            Refusal::Already(leg) => leg,
-            Refusal::NoEnd(line) => line,
-            Refusal::TooLong(limit) => limit,
+            Refusal::NotDue(figure)
+            | Refusal::WrongForm(figure)
+            | Refusal::OutOfRange(figure)
+            | Refusal::Full(figure)
+            | Refusal::NotEntered(figure)
+            | Refusal::NoLeg(figure)
+            | Refusal::NoHall(figure)
+            | Refusal::NoJunction(figure)
+            | Refusal::NoWay(figure)
+            | Refusal::ShortTable(figure)
+            | Refusal::Already(figure)
+            | Refusal::NoEnd(figure)
+            | Refusal::TooLong(figure) => figure,
         }
     }
 
@@ -84,5 +87,14 @@ impl Refusal {
             Refusal::NotEntered(_) => Refusal::NotEntered(line),
             other => other,
         }
+    }
+}
+
+// A refusal on two lines: its number, then its figure. The end of the second line is left to the caller.
+impl fmt::Display for Refusal {
+    ghost output = { λ refusal. Some (refusal_written refusal) };
+
+    fn fmt<W: fmt::Write>(&self, f: &mut fmt::Formatter<W>) -> fmt::Result {
+        write!(f, "refused={}\nfigure={}", self.number(), self.figure())
     }
 }

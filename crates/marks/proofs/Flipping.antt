@@ -1,9 +1,10 @@
 -- One bit of the mark words turned, and no other. Assumes nothing.
-use Rattle.std.proofs.Common.{◌≡◌, ℕ, zero, suc, ◌/◌, ◌%◌, ◌^◌, ◌<◌, Bool, true, false, cond, not, ◌&&◌, eqb, ltb, length, get_or, sym, refl, ap, ◌∙◌, ap₂, ⊎_elim, arith}
+use Rattle.std.proofs.Common.{◌≡◌, ℕ, zero, suc, ◌/◌, ◌%◌, ◌^◌, ◌<◌, Bool, true, false, cond, not, ◌&&◌, eqb, length, get_or, sym, refl, ap, ◌∙◌, ⊎_elim, arith}
 use lib.Bits.{bit_xor, xor_shr, xor_mod, xor_zero_r}
 use Rattle.std.proofs.lemmas.Nat.{mod_below}
+use Rattle.std.proofs.lemmas.Bool.Decides.{nat_tests}
 use Rattle.std.proofs.lemmas.List.{get_or-set_same, get_or-set_other}
-use Rattle.std.proofs.lemmas.Bool.{cases_eq, cases_lt, eq-eqb, ne_eqb, eqb-true, le-ltb, and_parts, and_from, and_left, and_right, cond-true, cond-false}
+use Rattle.std.proofs.lemmas.Bool.{cases_eq, cases_lt, eqb-true, and_parts}
 use Rattle.layout.specs.Limits.{most_halls, most_legs}
 use Rattle.marks.specs.Mark.{bit_set, flipped, possible}
 use Rattle.marks.specs.declared.words.MarkWords.{MarkWords}
@@ -54,27 +55,16 @@ module _ (w : MarkWords) (hall leg : ℕ) (full : length w.bits ≡ most_legs) (
   other_word : (h k : ℕ) → (k ≡ leg → ⊥) → bit_set (flipped w hall leg) h k ≡ bit_set w h k
   other_word h k apart = ap (λ n. eqb (n / 2 ^ h % 2) 1) (get_or-set_other w.bits leg k _ 0 apart)
 
-  other_hall : (h k : ℕ) → (h ≡ hall → ⊥) → h < most_halls → bit_set (flipped w hall leg) h k ≡ bit_set w h k
-  other_hall h k apart lj =
-      ⊎_elim
-      (λ q. ap (bit_set (flipped w hall leg) h) q ∙ own_word h lj ∙ cond-false _ _ _ (ne_eqb h hall apart) ∙ ap (bit_set w h) (sym q))
-      (λ q. other_word h k q)
-      (cases_eq k leg)
-
   pub marks_turned : (on : Bool) → not (bit_set w hall leg) ≡ on → (h k : ℕ)
       → (possible h k && bit_set (flipped w hall leg) h k) ≡ cond (eqb h hall && eqb k leg) (possible hall leg && on) (possible h k && bit_set w h k)
   marks_turned on turn h k =
       ⊎_elim
-      (λ p. ⊎_elim
-      (λ q. ap₂ (λ a b. possible a b && bit_set (flipped w hall leg) a b) p q
-      ∙ ap (λ b. possible hall leg && b) (own_word hall lh ∙ cond-true _ _ _ (eq-eqb hall hall refl) ∙ turn)
-      ∙ sym (cond-true _ _ _ (and_from _ _ (eq-eqb h hall p) (eq-eqb k leg q))))
-      (λ q. ap (λ b. possible h k && b) (other_word h k q) ∙ sym (cond-false _ _ _ (and_right _ _ (ne_eqb k leg q))))
+      (λ lj. ⊎_elim
+      (λ q. let own = own_word h lj in
+      ap (λ x. possible h x && bit_set (flipped w hall leg) h x) q
+      ∙ grind (arith, nat_tests, own, turn)
+      ∙ sym (ap (λ x. cond (eqb h hall && eqb x leg) (possible hall leg && on) (possible h x && bit_set w h x)) q))
+      (λ q. let other = other_word h k q in grind (arith, nat_tests, other))
       (cases_eq k leg))
-      (λ p.
-      ⊎_elim
-      (λ lj. ap (λ b. possible h k && b) (other_hall h k p lj))
-      (λ past. let none = and_left _ (ltb k most_legs) (le-ltb h most_halls past) in and_left _ _ none ∙ sym (and_left _ _ none))
+      (λ past. grind (arith, nat_tests))
       (cases_lt h most_halls)
-      ∙ sym (cond-false _ _ _ (and_left _ _ (ne_eqb h hall p))))
-      (cases_eq h hall)

@@ -3,14 +3,21 @@ use Rattle.std.proofs.Common.{◌≡◌, ℕ, ◌/◌, ◌%◌, ◌^◌, ◌<◌
 use Rattle.std.proofs.lemmas.List.{get_or-replicate}
 use Rattle.std.proofs.lemmas.Bool.{cases_lt, ltb-true, lt-ltb, le-ltb, and_parts, and_from, or_left, or_right, not_from_false}
 use Rattle.layout.specs.Limits.{most_halls, most_legs}
-use Rattle.layout.specs.Plant.{Plant, Sound}
-use Rattle.layout.proofs.Listed.{nth_within}
+use Rattle.layout.specs.Plant.{Plant, Sound, tails, heads}
+use Rattle.std.proofs.lemmas.Option.{slice_get_within}
 use Rattle.layers.specs.Day.{standing}
 use Rattle.marks.specs.Mark.{bit_set, is_marked, possible, shown, shown_leg}
 use Rattle.marks.specs.declared.words.MarkWords.{MarkWords}
 use Rattle.marks.specs.declared.words.Marks.{Marks}
 use Rattle.marks.proofs.Flipping.{at_below}
-use Rattle.layers.proofs.Relegging.{relegged_same}
+use Rattle.layers.proofs.Relegging.{relegged_same, figures_changed}
+
+-- marks change no end of a leg
+pub shown_tails : (m : Marks) (hall : ℕ) (p : Plant) → tails (shown m hall p) ≡ tails p
+shown_tails m hall p = figures_changed (shown_leg m p.halls hall) (λ l. l.tail) (λ l. l.tail) (λ k l. refl) 0 p.legs
+
+pub shown_heads : (m : Marks) (hall : ℕ) (p : Plant) → heads (shown m hall p) ≡ heads p
+shown_heads m hall p = figures_changed (shown_leg m p.halls hall) (λ l. l.head) (λ l. l.head) (λ k l. refl) 0 p.legs
 
 and_same : (b x : Bool) → (b ≡ true → x ≡ true) → (b && x) ≡ b
 and_same true x h = h refl
@@ -29,7 +36,7 @@ full_marks w full hall leg = and_same (possible hall leg) _ (λ e.
 -- nothing is hidden where every leg passes
 all_shown : (m : Marks) (hall : ℕ) (p : Plant) → ((k : ℕ) → k < length p.legs → (not (ltb hall p.halls) || is_marked m hall k) ≡ true) → shown m hall p ≡ p
 all_shown m hall p passes = relegged_same (shown_leg m p.halls hall) p (λ k l e.
-    ap (λ b. standing b l) (and_same l.is_open _ (λ _. passes k (nth_within p.legs k l e))))
+    ap (λ b. standing b l) (and_same l.is_open _ (λ _. passes k (slice_get_within p.legs k l e))))
 
 pub absent_shown : (m : Marks) (hall : ℕ) (p : Plant) → p.halls ≤ hall → shown m hall p ≡ p
 absent_shown m hall p past = all_shown m hall p (λ k low. or_left _ _ (not_from_false _ (le-ltb hall p.halls past)))

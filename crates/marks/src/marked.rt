@@ -1,4 +1,4 @@
-ghost use Rattle.std.specs.Prelude.{◌≡◌, ◌≤◌, not, ◌&&◌, ◌||◌, nat_lt};
+ghost use Rattle.std.specs.Prelude.{◌≡◌, ◌≤◌, not, ◌||◌, nat_lt};
 ghost use Rattle.marks.specs.Mark.{shown, is_marked};
 ghost use Rattle.marks.specs.Soundness.{shown_sound};
 
@@ -29,23 +29,20 @@ impl<'m, L: Layout> Marked<'m, L> {
     pub fn take_off(self) -> L
         ensures { result ≡ self.entry.below }
     {
-        let Marked {
-            below,
-            marks: _,
-            hall: _,
-        } = self;
-        below
+        self.below
     }
 
-    // Whether a leg is shown as open that is open or shut below.
-    fn leaves_open(&self, leg: u32, own: bool) -> bool
-        ensures { result ≡ (own && (not (nat_lt self.now.hall (L.Layout.meaning self.now.below).halls) || is_marked self.now.marks.now self.now.hall leg)) }
+    // Whether the layer leaves a leg as it is below, and does not hide it.
+    fn shows(&self, leg: u32) -> bool
+        ensures { result ≡ (not (nat_lt self.now.hall (L.Layout.meaning self.now.below).halls) || is_marked self.now.marks.now self.now.hall leg) }
     {
-        own && (self.hall >= self.below.halls() || self.marks.has(self.hall, leg))
+        self.hall >= self.below.halls() || self.marks.has(self.hall, leg)
     }
 }
 
 // The marked layer means the layout below as its hall's marks show it.
+// kept: questions are handed on one by one; an impl for all that hand questions on clashes with that of a lent layout.
+#[tactic(auto, using(layers::proofs::Relegging::figure_changed, layers::specs::Soundness::length_changed, crate::proofs::Lapsing::shown_tails, crate::proofs::Lapsing::shown_heads))]
 impl<'m, L: Layout> Layout for Marked<'m, L> {
     ghost meaning = { λ m. shown m.marks.now m.hall (L.Layout.meaning m.below) };
 
@@ -92,8 +89,7 @@ impl<'m, L: Layout> Layout for Marked<'m, L> {
     }
 
     fn is_open(&self, leg: u32) -> Option<bool> {
-        let own = self.below.is_open(leg)?;
-        Some(self.leaves_open(leg, own))
+        Some(self.below.is_open(leg)? && self.shows(leg))
     }
 
     fn leaving(&self, junction: u32, from: u32) -> Option<u32> {

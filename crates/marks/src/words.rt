@@ -2,6 +2,7 @@ ghost use Rattle.std.specs.Prelude.{◌≡◌, length};
 ghost use Rattle.layout.specs.Limits.{most_legs};
 
 // The mark words: one for each leg, with a bit for each hall.
+// kept: a plain struct of words with bits, as was asked for; the library allocates nothing.
 #[derive(Drop)]
 pub struct MarkWords {
     pub(crate) bits: [u32; 512],

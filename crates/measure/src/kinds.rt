@@ -15,8 +15,7 @@ const PACES: [u32; 8] = [20, 16, 14, 12, 10, 8, 6, 5];
 fn pace(class: u32) -> u32
     ensures { result ≡ pace_of class }
 {
-    let place = class as usize;
-    if place < PACES.len() { PACES[place] } else { 0 }
+    PACES.get(class as usize).copied().unwrap_or(0)
 }
 
 // The time of a leg in tenths of a second, stopped at the largest number of 32 bits.
@@ -30,15 +29,11 @@ fn leg_time(figures: Figures) -> u32
 impl Measure for Tenths {
     const LETTER: u8 = b't';
 
-    ghost code = { 116 };
+    ghost LETTER = { 116 };
 
     ghost scale = { time_scale };
 
     ghost lawful = { time_lawful };
-
-    fn initial() -> u8 {
-        Self::LETTER
-    }
 
     fn unit() -> Self {
         Tenths { tenths: 0 }
@@ -57,7 +52,7 @@ impl Measure for Tenths {
     }
 
     fn is_below(self, other: Self) -> bool {
-        self.tenths < other.tenths
+        self < other // by the tenths
     }
 }
 
@@ -65,15 +60,11 @@ impl Measure for Tenths {
 impl Measure for Headroom {
     const LETTER: u8 = b'h';
 
-    ghost code = { 104 };
+    ghost LETTER = { 104 };
 
     ghost scale = { clearance_scale };
 
     ghost lawful = { clearance_lawful };
-
-    fn initial() -> u8 {
-        Self::LETTER
-    }
 
     fn unit() -> Self {
         Headroom {
@@ -83,7 +74,7 @@ impl Measure for Headroom {
 
     fn weight(figures: Figures) -> Self {
         Headroom {
-            centimetres: figures.clearance.min(u16::MAX as u32) as u16,
+            centimetres: u16::try_from(figures.clearance).unwrap_or(u16::MAX),
         }
     }
 
@@ -94,7 +85,7 @@ impl Measure for Headroom {
     }
 
     fn is_below(self, other: Self) -> bool {
-        self.centimetres > other.centimetres
+        self > other
     }
 }
 
@@ -116,15 +107,11 @@ fn stopped(time: u32, turns: u32) -> TimeTurns
 impl Measure for TimeTurns {
     const LETTER: u8 = b'd';
 
-    ghost code = { 100 };
+    ghost LETTER = { 100 };
 
     ghost scale = { turns_scale };
 
     ghost lawful = { turns_lawful };
-
-    fn initial() -> u8 {
-        Self::LETTER
-    }
 
     fn unit() -> Self {
         TimeTurns { time: 0, turns: 0 }
@@ -142,7 +129,7 @@ impl Measure for TimeTurns {
     }
 
     fn is_below(self, other: Self) -> bool {
-        self.time < other.time || (self.time == other.time && self.turns < other.turns)
+        self < other // by the time, then by the turns
     }
 }
 

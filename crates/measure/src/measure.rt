@@ -9,15 +9,11 @@ pub trait Measure: Copy {
     // The small letter that names the measure in a text.
     const LETTER: u8;
 
-    // The byte of LETTER: a clause can't name a constant of a type parameter.
-    ghost code: { ℕ };
+    // The same byte, for clauses.
+    ghost LETTER: { ℕ };
 
     // What the measure means: the unit, the joining, the order and the weights.
     ghost scale: { Scale Self };
-
-    // LETTER, for callers whose contracts speak of it.
-    fn initial() -> u8
-        ensures { result ≡ code };
 
     // The total of no legs.
     fn unit() -> Self

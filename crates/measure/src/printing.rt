@@ -19,8 +19,7 @@ impl fmt::Display for Tenths {
     ghost output = { λ total. Some (time_written total) };
 
     fn fmt<W: fmt::Write>(&self, f: &mut fmt::Formatter<W>) -> fmt::Result {
-        let tenths = self.tenths;
-        write!(f, "{tenths}")
+        write!(f, "{}", self.tenths)
     }
 }
 
@@ -28,8 +27,7 @@ impl fmt::Display for Headroom {
     ghost output = { λ total. Some (clearance_written total) };
 
     fn fmt<W: fmt::Write>(&self, f: &mut fmt::Formatter<W>) -> fmt::Result {
-        let centimetres = self.centimetres;
-        write!(f, "{centimetres}")
+        write!(f, "{}", self.centimetres)
     }
 }
 
@@ -37,12 +35,11 @@ impl fmt::Display for TimeTurns {
     ghost output = { λ total. Some (turns_written total) };
 
     fn fmt<W: fmt::Write>(&self, f: &mut fmt::Formatter<W>) -> fmt::Result {
-        let time = self.time;
-        let turns = self.turns;
-        write!(f, "{time},{turns}")
+        write!(f, "{},{}", self.time, self.turns)
     }
 }
 
+// kept: an impl for each measure, since each names the bytes of its own text.
 impl Printing for Tenths {
     ghost written = { time_written };
 

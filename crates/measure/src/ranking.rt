@@ -6,6 +6,7 @@ use crate::measure::Measure;
 use std::cmp::Ordering;
 
 // How a total stands to another: below it, the same total, or above it.
+// kept: no derive gives it, since the order is the measure's own; a larger clearance is below a smaller one.
 pub fn compare<M: Measure>(total: M, other: M) -> Ordering
     ensures { MatchOrdering result (M.scale.below total other ≡ true) (total ≡ other) (M.scale.below other total ≡ true) }
 {

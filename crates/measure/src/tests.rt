@@ -19,8 +19,7 @@ fn leg(class: u32) -> Figures {
 #[test]
 fn paces_by_class(rt: HostRuntime) {
     let times = [200, 160, 140, 120, 100, 80, 60, 50, 0];
-    for class in 0..9 {
-        let tenths = times[class];
+    for (class, &tenths) in times.iter().enumerate() {
         assert_eq!(rt;
             <Tenths as Measure>::weight(leg(class as u32)),
             Tenths { tenths }

@@ -15,6 +15,7 @@ pub(crate) enum OrderKey {
 
 impl OrderKey {
     // The order that a key names.
+    // kept: for a key that only this crate asks for, found or not is all there is to say; a `TryFrom` would add an error type that says no more
     pub(crate) fn named(key: &[u8]) -> Option<OrderKey>
         ensures { MatchOption result ((k : Word) → key.now ≢ spelt k) (λ k. key.now ≡ spelt k) }
     {

@@ -2,7 +2,6 @@
 ghost use Rattle.std.specs.Prelude.{◌≡◌, ℕ, List, MatchOption};
 ghost use Rattle.tokens.specs.Cuts.{Keyed};
 ghost use Rattle.tokens.specs.Taken.{left};
-ghost use Rattle.tokens.specs.declared.line.Due.TheVariants.{Value};
 ghost use Rattle.order_text.specs.declared.key.OrderKey.{OrderKey as Word};
 ghost use Rattle.order_text.specs.declared.order.Order.{Order as Asked};
 ghost use Rattle.order_text.specs.Orders.{spelt, Says, ReadsOrder};
@@ -10,24 +9,21 @@ ghost use Rattle.order_text.specs.Orders.{spelt, Says, ReadsOrder};
 use crate::key::OrderKey;
 use crate::order::Order;
 use layout::refusal::Refusal;
-use tokens::{Line, Token};
+use tokens::{Values, split_key};
 
-// The order that a line's key names, and the line with its values left.
-fn take_key(line: &[u8]) -> Option<(OrderKey, Line)>
-    ensures { MatchOption result ((k : Word) (value : List ℕ) → Keyed line.now (spelt k) value → ⊥) (λ found. (found.1.due ≡ Value) × Keyed line.now (spelt found.0) (left found.1)) }
+// The order that a line's key names, and the line's values.
+fn take_key(line: &[u8]) -> Option<(OrderKey, Values)>
+    ensures { MatchOption result ((k : Word) (value : List ℕ) → Keyed line.now (spelt k) value → ⊥) (λ found. Keyed line.now (spelt found.0) (left found.1.line)) }
 {
-    let mut values = Line::new(line);
-    match values.next_token()? {
-        Token::Key(word) => Some((OrderKey::named(word)?, values)),
-        Token::Value(_) => None,
-    }
+    let (word, values) = split_key(line)?;
+    Some((OrderKey::named(word)?, values))
 }
 
-// The order with that key whose values are left in the line.
-fn take_values(key: OrderKey, values: Line) -> Option<Order>
-    requires { values.due ≡ Value }
-    ensures { MatchOption result ((o : Asked) → Says key (left values.entry) o → ⊥) (λ o. Says key (left values.entry) o) }
+// The order with that key that the values write.
+fn take_values(key: OrderKey, values: Values) -> Option<Order>
+    ensures { MatchOption result ((o : Asked) → Says key (left values.entry.line) o → ⊥) (λ o. Says key (left values.entry.line) o) }
 {
+    // kept: with `map` each of these would be a closure with a contract of its own
     match key {
         OrderKey::Shut => {
             let [leg] = values.numbers::<1>()?;
@@ -60,11 +56,6 @@ fn take_values(key: OrderKey, values: Line) -> Option<Order>
 pub fn read_order(line: &[u8], at: u32) -> Result<Order, Refusal>
     ensures { ReadsOrder line.now at result }
 {
-    let Some((key, values)) = take_key(line) else {
-        return Err(Refusal::NotDue(at));
-    };
-    match take_values(key, values) {
-        Some(order) => Ok(order),
-        None => Err(Refusal::WrongForm(at)),
-    }
+    let (key, values) = take_key(line).ok_or(Refusal::NotDue(at))?;
+    take_values(key, values).ok_or(Refusal::WrongForm(at))
 }

@@ -43,11 +43,11 @@ fn small() -> Result<Plan, Refusal> {
 fn leaving<L: Layout>(layout: &L, junction: u32) -> [Option<u32>; 3] {
     let mut found = [None; 3];
     let mut from = 0;
-    for place in 0..3usize {
+    for place in found.iter_mut() {
         let Some(leg) = layout.leaving(junction, from) else {
-            return found;
+            break;
         };
-        found[place] = Some(leg);
+        *place = Some(leg);
         from = leg.saturating_add(1);
     }
     found

@@ -1,27 +1,16 @@
--- What a drawing means, what keeps it sound, and what entering does to it. Assumes nothing.
-use Rattle.std.specs.Prelude.{◌≡◌, ℕ, ◌≤◌, [], ◌∷◌, ◌++◌, map, length, take, None, Option, nat_lt}
+-- What a drawing means, and what entering does to it. Assumes nothing.
+use Rattle.std.specs.Prelude.{ℕ, [], ◌∷◌, ◌++◌, length, None, Option, nat_lt}
 use Rattle.layout.specs.Limits.{most_junctions, most_legs, halls_fit, metres_fit, class_fits, clearance_fits, turn_fits}
-use Rattle.layout.specs.Plant.{Leg, Plant, Sound, leg_of, tails, heads}
+use Rattle.layout.specs.Plant.{Leg, Plant}
 use Rattle.layout.specs.Refused.{refuse_unless}
 use Rattle.layout.specs.declared.refusal.Refusal.{Refusal}
 use Rattle.layout.specs.declared.refusal.Refusal.TheVariants.{OutOfRange, Full, NotEntered}
-use Rattle.plan.specs.Chained.{Chained}
+use Rattle.plan.specs.Entered.{plant_of}
 use Rattle.plan.specs.declared.drawing.Drawing.{Drawing}
 
--- what was entered, in order of entry; a leg that was entered is open
+-- what was entered into a drawing
 abbrev pub drawn : Drawing → Plant
-drawn d = record { halls = d.halls; hall_of = take d.points d.places; legs = map leg_of (take d.count d.belts) }
-
--- the counts are within the tables, the limits hold, and the index is that of the legs entered
-pub record Kept (d : Drawing) : Type 0 where
-  pub few_points : d.points ≤ 256
-  pub few_belts : d.count ≤ 512
-  pub wide_places : length d.places ≡ 256
-  pub wide_belts : length d.belts ≡ 512
-  pub sound : Sound (drawn d)
-  pub leaves : Chained (tails (drawn d)) d.leaving
-  pub reaches : Chained (heads (drawn d)) d.reaching
-  deriving IsProp as KeptProp
+drawn d = plant_of d.halls d.points d.tables.places d.count d.tables.belts
 
 -- a draft of so many halls, with nothing entered
 abbrev pub begun : ℕ → Plant

@@ -1,4 +1,5 @@
 pub mod Chained
+pub mod Entered
 pub mod Drawn
 pub mod Meant
 pub mod Limited

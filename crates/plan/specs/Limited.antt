@@ -1,9 +1,11 @@
--- The limits hold of every plan. Assumes nothing.
-use Rattle.std.proofs.Math.Logic.{∥∥₁_elim}
+-- The limits hold of every draft and of every plan. Assumes nothing.
 use Rattle.layout.specs.Plant.{Sound}
-use Rattle.layout.proofs.Props.{sound_prop}
-use Rattle.plan.specs.Meant.{planned}
+use Rattle.plan.specs.Meant.{sketched, planned}
+use Rattle.plan.specs.declared.draft.Draft.{Draft}
 use Rattle.plan.specs.declared.draft.Plan.{Plan}
 
+pub sketch_sound : (d : Draft) → Sound (sketched d)
+sketch_sound d = d.drawing.sound
+
 pub plan_sound : (p : Plan) → Sound (planned p)
-plan_sound p = ∥∥₁_elim p.kept (sound_prop (planned p)) (λ k. k.sound)
+plan_sound p = p.drawing.sound

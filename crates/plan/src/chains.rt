@@ -1,60 +1,83 @@
-ghost use Rattle.std.specs.Prelude.{◌≡◌, ℕ, ◌+◌, ◌<◌, ◌≤◌, List, [], ◌∷◌, ◌++◌, length, Some};
-ghost use Rattle.std.specs.List.{slice_get};
+ghost use Rattle.std.specs.Prelude.{◌≡◌, ◌<◌, [], ◌∷◌, ◌++◌, length};
 ghost use Rattle.layout.specs.Plant.{Next};
-ghost use Rattle.plan.specs.Chained.{Chained, ChainsOf, ChainsWithin};
 
-// The legs at one end of each junction, in number order: the first leg, the last one, and after each leg the next.
+use crate::tables::Links;
+use std::marker::Model;
+
+// The junctions at one end of the legs, in leg order, and for each junction the chain of its legs in number order.
+// kept: a count beside the tables, for the same reason as they.
 #[derive(Drop)]
 pub struct Chains {
-    pub(crate) first: [Option<u32>; 256],
-    pub(crate) last: [Option<u32>; 256],
-    pub(crate) next: [Option<u32>; 512],
+    count: u32,
+    links: Links,
+}
+
+// Chains are seen as the list of the junctions.
+impl Model for Chains {
+    ghost use Rattle.std.specs.Prelude.{ℕ, List};
+
+    ghost Value = { List ℕ };
+
+    ghost use Rattle.plan.specs.Chained.{ends_of, Chained};
+
+    ghost view = { ends_of };
+
+    ghost invariant = { Chained };
 }
 
 impl Chains {
     // No leg at any junction.
     pub(crate) fn empty() -> Chains
-        ensures { Chained [] result }
+        ensures { result ≡ [] }
     {
-        let first = [None; 256];
-        let last = [None; 256];
-        let next = [None; 512];
-        Chains { first, last, next }
+        Chains {
+            count: 0,
+            links: Links {
+                ends: [0; 512],
+                first: [None; 256],
+                last: [None; 256],
+                next: [None; 512],
+            },
+        }
     }
 
     // One leg more, of the next number, at a junction.
-    pub(crate) fn push(&mut self, junction: u32, leg: u32)
-        requires { (ChainsOf leg self.old) × ((junction < 256) × (leg < 512)) }
-        ensures { (ks : List ℕ) → Chained ks self.old → length ks ≡ leg → Chained (ks ++ (junction ∷ [])) self.new }
+    pub(crate) fn push(&mut self, junction: u32)
+        requires { (junction < 256) × (length self.old < 512) }
+        ensures { self.new ≡ self.old ++ (junction ∷ []) }
     {
-        let end = self.last[junction as usize];
-        match end {
-            Some(before) => self.next[before as usize] = Some(leg),
-            None => self.first[junction as usize] = Some(leg),
+        let leg = self.count;
+        match self.links.last[junction as usize] {
+            Some(before) => self.links.next[before as usize] = Some(leg),
+            None => self.links.first[junction as usize] = Some(leg),
         }
-        self.last[junction as usize] = Some(leg);
-        self.next[leg as usize] = None;
+        self.links.last[junction as usize] = Some(leg);
+        self.links.next[leg as usize] = None;
+        self.links.ends[leg as usize] = junction;
+        self.count = leg + 1;
     }
 
-    // The next leg after one of a chain.
-    pub(crate) fn after(&self, leg: u32) -> Option<u32>
-        requires { (leg < 512) × (length self.now.next ≡ 512) }
-        ensures { (ks : List ℕ) (junction : ℕ) → Chained ks self.now → slice_get ks leg ≡ Some junction → Next ks junction (leg + 1) result }
+    // The least leg of a junction that is not below a number: at once where the leg before is of the same chain.
+    pub(crate) fn from(&self, junction: u32, from: u32) -> Option<u32>
+        ensures { Next self.now junction from result }
     {
-        self.next[leg as usize]
+        if 0 < from && from <= self.count && self.links.ends[from as usize - 1] == junction {
+            return self.links.next[from as usize - 1];
+        }
+        self.seek(junction, from)
     }
 
-    // The least leg of a junction's chain that is not below a number.
-    pub(crate) fn seek(&self, junction: u32, from: u32) -> Option<u32>
-        requires { (ChainsWithin 512 self.now) × (junction < 256) }
-        ensures { (ks : List ℕ) → Chained ks self.now → Next ks junction from result }
+    // The same, along the junction's chain from its first leg.
+    // kept: `successors(..).find(..)` would hide that the chain ends, which is what the loop's measure shows.
+    fn seek(&self, junction: u32, from: u32) -> Option<u32>
+        ensures { Next self.now junction from result }
     {
-        let mut at = self.first[junction as usize];
+        let mut at = self.links.first.get(junction as usize).copied().flatten();
         while let Some(leg) = at {
             if leg >= from {
                 return at;
             }
-            at = self.next[leg as usize];
+            at = self.links.next[leg as usize];
         }
         None
     }

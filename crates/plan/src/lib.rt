@@ -6,3 +6,4 @@ pub mod draft;
 pub mod drawing;
 pub mod entering;
 pub mod planned;
+pub mod tables;

@@ -19,6 +19,7 @@ impl Plan {
 }
 
 // A drawn plan as a layout: what was entered, every leg open.
+// kept: a question for each figure, as was asked for.
 impl Layout for Plan {
     ghost meaning = { planned };
 
@@ -41,59 +42,38 @@ impl Layout for Plan {
     }
 
     fn tail(&self, leg: u32) -> Option<u32> {
-        match self.belt(leg) {
-            Some(belt) => Some(belt.tail),
-            None => None,
-        }
+        self.belt(leg).map(|belt| belt.tail)
     }
 
     fn head(&self, leg: u32) -> Option<u32> {
-        match self.belt(leg) {
-            Some(belt) => Some(belt.head),
-            None => None,
-        }
+        self.belt(leg).map(|belt| belt.head)
     }
 
     fn metres(&self, leg: u32) -> Option<u32> {
-        match self.belt(leg) {
-            Some(belt) => Some(belt.metres),
-            None => None,
-        }
+        self.belt(leg).map(|belt| belt.metres)
     }
 
     fn class(&self, leg: u32) -> Option<u32> {
-        match self.belt(leg) {
-            Some(belt) => Some(belt.class),
-            None => None,
-        }
+        self.belt(leg).map(|belt| belt.class)
     }
 
     fn clearance(&self, leg: u32) -> Option<u32> {
-        match self.belt(leg) {
-            Some(belt) => Some(belt.clearance),
-            None => None,
-        }
+        self.belt(leg).map(|belt| belt.clearance)
     }
 
     fn turn(&self, leg: u32) -> Option<u32> {
-        match self.belt(leg) {
-            Some(belt) => Some(belt.turn),
-            None => None,
-        }
+        self.belt(leg).map(|belt| belt.turn)
     }
 
     fn is_open(&self, leg: u32) -> Option<bool> {
-        match self.belt(leg) {
-            Some(_) => Some(true),
-            None => None,
-        }
+        self.belt(leg).map(|_| true)
     }
 
     fn leaving(&self, junction: u32, from: u32) -> Option<u32> {
-        self.drawing.next_leaving(junction, from)
+        self.drawing.leaving.from(junction, from)
     }
 
     fn reaching(&self, junction: u32, from: u32) -> Option<u32> {
-        self.drawing.next_reaching(junction, from)
+        self.drawing.reaching.from(junction, from)
     }
 }

@@ -17,7 +17,7 @@ one_number : (value : List ℕ) (m n : ℕ) → One value m → One value n → 
 one_number value m n one other = ap (λ ns. get_or ns 0 0) (one_list value (m ∷ []) (n ∷ []) one other)
 
 -- a leg's ends and figures in the order of its line
-abbrev figures : Belt → List ℕ
+abbrev pub figures : Belt → List ℕ
 figures b = b.tail ∷ b.head ∷ b.metres ∷ b.class ∷ b.clearance ∷ b.turn ∷ []
 
 abbrev belt_of : List ℕ → Belt

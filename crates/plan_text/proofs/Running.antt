@@ -1,14 +1,11 @@
 -- Lines accepted one after the other. Assumes nothing.
-use Rattle.std.proofs.Common.{◌≡◌, ℕ, zero, suc, ◌+◌, ◌<◌, List, [], ◌∷◌, ◌++◌, length, sym, refl, ap, ◌∙◌, subst, append_assoc, add-one, arith}
-use Rattle.tokens.proofs.Cutting.{line_shorter}
+use Rattle.std.proofs.Common.{◌≡◌, ℕ, zero, suc, ◌+◌, ◌-◌, ◌≤◌, List, [], ◌∷◌, ◌++◌, length, drop, sym, refl, ap, ◌∙◌, subst, append_assoc, add-one, arith}
+use Rattle.std.proofs.lemmas.List.{length-append, drop_at}
 use Rattle.plan_text.specs.Heard.{Heard}
 use Rattle.plan_text.specs.Reads.{Accepts, Lines, EndsWith}
 
--- an accepted line takes a byte at least, and the text ends with what comes after it
+-- a text ends with what comes after an accepted line
 module _ (h : Heard) (line : ℕ) (text : List ℕ) (after : Heard) (rest : List ℕ) (a : Accepts h line text after rest) where
-  pub accepted_shorter : length rest < length text
-  accepted_shorter = line_shorter text a.bytes rest a.cut
-
   pub accepted_tail : (before : List ℕ) → EndsWith before text → EndsWith before rest
   accepted_tail before (front, e) = (
     front ++ (a.bytes ++ (10 ∷ [])),
@@ -45,3 +42,20 @@ lines_then (suc k) j h line text mid left after rest (next, more, first, others)
     let m : suc (k + j) ≡ suc k + j = omega arith in
     subst (λ x. Lines x h line text after rest) m
     (next, more, first, lines_then k j next (line + 1) more mid left after rest others (subst (λ x. Lines j mid x left after rest) n ls))
+
+-- a text ends with what comes after its accepted lines
+pub lines_end : (k : ℕ) (h : Heard) (line : ℕ) (text : List ℕ) (after : Heard) (rest before : List ℕ)
+    → Lines k h line text after rest → EndsWith before text → EndsWith before rest
+lines_end zero h line text after rest before (same, all) ends = subst (EndsWith before) all ends
+lines_end (suc k) h line text after rest before (mid, left, first, others) ends =
+    lines_end k mid (line + 1) left after rest before others (accepted_tail h line text mid left first before ends)
+
+-- what a text ends with begins where the other bytes end
+pub rest_begins : (text rest : List ℕ) → EndsWith text rest → drop (length text - length rest) text ≡ rest
+rest_begins text rest (front, e) =
+    let long = ap length e ∙ length-append front rest in
+    let place : length front ≡ length text - length rest = omega arith in
+    ap (drop (length text - length rest)) e ∙ drop_at front rest (length text - length rest) place
+
+pub ends_within : (text rest : List ℕ) → EndsWith text rest → length rest ≤ length text
+ends_within text rest (front, e) = let long = ap length e ∙ length-append front rest in omega arith

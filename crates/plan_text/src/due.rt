@@ -20,6 +20,7 @@ pub(crate) enum Due {
 
 impl Due {
     // The key of such a line.
+    // kept: a method with the key's name; a `From` into bytes would not say that they are a key.
     pub(crate) fn key(self) -> &'static [u8]
         ensures { result.now ≡ key_of self }
     {

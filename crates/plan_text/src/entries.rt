@@ -1,17 +1,13 @@
 ghost use Rattle.std.specs.Prelude.{◌≡◌};
-ghost use Rattle.tokens.specs.Taken.{left};
-ghost use Rattle.tokens.specs.declared.line.Due.TheVariants.{Value};
 ghost use Rattle.plan_text.specs.Parts.{entries_heard, entries_waits, entries_asks};
-ghost use Rattle.plan_text.specs.Told.{Told};
-ghost use Rattle.plan_text.specs.Hears.{Hearing};
+ghost use Rattle.plan_text.specs.Hears.{Tells};
 
 use crate::due::Due;
 use crate::kind::Kind;
 use crate::listener::Listener;
-use crate::valued::{one, six};
+use crate::values::LineValues;
 use layout::refusal::Refusal;
 use plan::draft::Draft;
-use tokens::Line;
 
 // The junctions and legs of a plan: the draft that they are entered into, and how many of each were announced.
 #[derive(Drop)]
@@ -23,28 +19,27 @@ pub(crate) struct Entries {
 }
 
 impl Entries {
+    // kept: this and the next differ in what is read and where it is entered, which is all they do.
     // An `at` line enters a junction.
-    fn hear_at(&mut self, line: Line, at: u32) -> Result<(), Refusal>
-        requires { line.due ≡ Value }
-        ensures { Hearing (Told (entries_heard self.old) at Due.At (left line.entry)) (entries_heard self.old) result (entries_heard self.new) }
+    fn hear_at(&mut self, values: LineValues) -> Result<(), Refusal>
+        ensures { Tells (entries_heard self.old) Due.At values.entry result (entries_heard self.new) }
     {
-        let hall = one(line, at)?;
-        match self.draft.junction(hall) {
-            Ok(_) => Ok(()),
-            Err(refusal) => Err(refusal.in_line(at)),
-        }
+        let hall = values.number()?;
+        self.draft
+            .junction(hall)
+            .map_err(|refusal| refusal.in_line(values.at))?;
+        Ok(())
     }
 
     // A `leg` line enters a leg.
-    fn hear_leg(&mut self, line: Line, at: u32) -> Result<(), Refusal>
-        requires { line.due ≡ Value }
-        ensures { Hearing (Told (entries_heard self.old) at Due.Leg (left line.entry)) (entries_heard self.old) result (entries_heard self.new) }
+    fn hear_leg(&mut self, values: LineValues) -> Result<(), Refusal>
+        ensures { Tells (entries_heard self.old) Due.Leg values.entry result (entries_heard self.new) }
     {
-        let belt = six(line, at)?;
-        match self.draft.leg(belt) {
-            Ok(_) => Ok(()),
-            Err(refusal) => Err(refusal.in_line(at)),
-        }
+        let belt = values.belt()?;
+        self.draft
+            .leg(belt)
+            .map_err(|refusal| refusal.in_line(values.at))?;
+        Ok(())
     }
 }
 
@@ -66,10 +61,11 @@ impl Listener for Entries {
         }
     }
 
-    fn tell(&mut self, due: Due, line: Line, at: u32) -> Result<(), Refusal> {
+    fn tell(&mut self, due: Due, values: LineValues) -> Result<(), Refusal> {
         match due {
-            Due::At => self.hear_at(line, at),
-            Due::Leg => self.hear_leg(line, at),
+            Due::At => self.hear_at(values),
+            Due::Leg => self.hear_leg(values),
+            // kept: the contract rules the other lines out; an enum of lines for each part would say each key twice
             _ => unreachable(),
         }
     }

@@ -9,4 +9,4 @@ pub mod kind;
 mod listener;
 mod listening;
 pub mod reading;
-mod valued;
+mod values;

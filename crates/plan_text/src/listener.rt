@@ -1,14 +1,11 @@
 ghost use Rattle.std.specs.Prelude.{◌≡◌, Some, Option as MaybeDue};
-ghost use Rattle.tokens.specs.Taken.{left};
-ghost use Rattle.tokens.specs.declared.line.Due.TheVariants.{Value};
 ghost use Rattle.plan_text.specs.declared.due.Due.{Due as PlanLine};
 ghost use Rattle.plan_text.specs.Heard.{Heard, due};
-ghost use Rattle.plan_text.specs.Told.{Told};
-ghost use Rattle.plan_text.specs.Hears.{Hearing};
+ghost use Rattle.plan_text.specs.Hears.{Tells};
 
 use crate::due::Due;
+use crate::values::LineValues;
 use layout::refusal::Refusal;
-use tokens::Line;
 
 // Whoever listens to a part of the plan, line by line.
 pub(crate) trait Listener {
@@ -22,10 +19,10 @@ pub(crate) trait Listener {
     fn due(&self) -> Option<Due>
         ensures { result ≡ waits self.now };
 
-    // Takes the value of that line, whose number is `at`. A refused line changes nothing.
-    fn tell(&mut self, due: Due, line: Line, at: u32) -> Result<(), Refusal>
-        requires { (waits self.old ≡ Some due) × (line.due ≡ Value) }
-        ensures { Hearing (Told (heard self.old) at due (left line.entry)) (heard self.old) result (heard self.new) };
+    // Takes the values of that line. A refused line changes nothing.
+    fn tell(&mut self, due: Due, values: LineValues) -> Result<(), Refusal>
+        requires { waits self.old ≡ Some due }
+        ensures { Tells (heard self.old) due values.entry result (heard self.new) };
 
     // Such a line is the one due.
     ghost asks: { (l : Self) (d : PlanLine) → waits l ≡ Some d → due (heard l) ≡ Some d };

@@ -1,26 +1,24 @@
 // A part of the plan is heard from a text, line by line.
-ghost use Rattle.std.specs.Prelude.{◌≡◌, ℕ, ◌+◌, ◌≤◌, List, length, Some, None, Ok, Err, MatchOption};
+ghost use Rattle.std.specs.Prelude.{◌≡◌, ℕ, ◌+◌, ◌≤◌, List, length, Some, None, MatchOption};
+ghost use Rattle.std.specs.Result.{result_err};
 ghost use Rattle.tokens.specs.Cuts.{Keyed};
 ghost use Rattle.tokens.specs.Taken.{left};
-ghost use Rattle.tokens.specs.declared.line.Due.TheVariants.{Value};
 ghost use Rattle.plan_text.specs.Told.{Says};
 ghost use Rattle.plan_text.specs.Hears.{Hearing};
-ghost use Rattle.plan_text.specs.Reads.{Accepts, Refuses, Lines, Halts, EndsWith};
+ghost use Rattle.plan_text.specs.Reads.{most_bytes, Accepts, Refuses, Lines, Halts};
 
 use crate::due::Due;
 use crate::listener::Listener;
+use crate::values::LineValues;
 use layout::refusal::Refusal;
-use tokens::{Line, Token, next_line};
+use tokens::{Values, next_line, split_key};
 
 // The values of a line that has the given key.
-fn values_under<'a>(line: &'a [u8], key: &[u8]) -> Option<Line<'a>>
-    ensures { MatchOption result ((value : List ℕ) → Keyed line.now key.now value → ⊥) (λ values. (values.due ≡ Value) × Keyed line.now key.now (left values)) }
+fn values_under<'a>(line: &'a [u8], key: &[u8]) -> Option<Values<'a>>
+    ensures { MatchOption result ((value : List ℕ) → Keyed line.now key.now value → ⊥) (λ values. Keyed line.now key.now (left values.line)) }
 {
-    let mut values = Line::new(line);
-    match values.next_token()? {
-        Token::Key(found) => { if found == key { Some(values) } else { None } }
-        Token::Value(_) => None,
-    }
+    let (found, values) = split_key(line)?;
+    (found == key).then_some(values)
 }
 
 // One line, whose number is `at`: its key has to be the one due.
@@ -28,72 +26,46 @@ fn hear_line<L: Listener>(listener: &mut L, due: Due, line: &[u8], at: u32) -> R
     requires { L.waits listener.old ≡ Some due }
     ensures { Hearing (Says (L.heard listener.old) at due line.now) (L.heard listener.old) result (L.heard listener.new) }
 {
-    match values_under(line, due.key()) {
-        Some(values) => listener.tell(due, values, at),
-        None => Err(Refusal::NotDue(at)),
-    }
+    let values = values_under(line, due.key()).ok_or(Refusal::NotDue(at))?;
+    listener.tell(due, LineValues { values, at })
 }
 
-// The first line of a text, whose number is `at`; the answer is what comes after it.
-fn hear_next<'a, L: Listener>(
-    listener: &mut L,
-    due: Due,
-    text: &'a [u8],
-    at: u32,
-) -> Result<&'a [u8], Refusal>
-    requires { L.waits listener.old ≡ Some due }
-    ensures { elim result [ Ok rest ↦ Accepts (L.heard listener.old) at text.now (L.heard listener.new) rest.now | Err e ↦ Refuses (L.heard listener.old) at text.now e × (L.heard listener.new ≡ L.heard listener.old) ] }
-{
-    if text.is_empty() {
-        return Err(Refusal::NotDue(at));
-    }
-    let Some((line, rest)) = next_line(text) else {
-        return Err(Refusal::NoEnd(at));
-    };
-    match hear_line(listener, due, line, at) {
-        Ok(()) => Ok(rest),
-        Err(refusal) => Err(refusal),
-    }
-}
-
-// What listening came to.
+// How far a text was read.
 #[derive(Drop)]
-pub(crate) struct Listened<'a> {
-    // how many lines were accepted, and what comes after them
+pub(crate) struct Place<'a> {
+    // how many lines were accepted
     pub(crate) lines: u32,
+    // what comes after them
     pub(crate) rest: &'a [u8],
-    // why it stopped before the part was whole
-    pub(crate) refusal: Option<Refusal>,
+    // the text is not too long, and each line takes a byte at least
+    ghost short: { lines + length rest.now ≤ most_bytes },
 }
 
-// Listens to the lines of a text until the part is whole or a line is refused. So many lines came `before`.
-pub(crate) fn listen<'a, L: Listener>(listener: &mut L, text: &'a [u8], before: u32) -> Listened<'a>
-    requires { before + length text.now ≤ 65536 }
-    ensures lines { Lines result.lines (L.heard listener.old) (before + 1) text.now (L.heard listener.new) result.rest.now }
-    ensures stops { Halts (L.waits listener.new ≡ None) (L.heard listener.new) (before + result.lines + 1) result.rest.now result.refusal }
-    ensures fewer { result.lines + length result.rest.now ≤ length text.now }
-    ensures tail { EndsWith text.now result.rest.now }
-{
-    let mut lines = 0;
-    let mut rest = text;
-    while let Some(due) = listener.due() {
-        match hear_next(listener, due, rest, before + lines + 1) {
-            Ok(after) => {
-                lines += 1;
-                rest = after;
-            }
-            Err(refusal) => {
-                return Listened {
-                    lines,
-                    rest,
-                    refusal: Some(refusal),
-                };
-            }
+impl<'a> Place<'a> {
+    // The next line, which is accepted or refused. At a refused line the place stays.
+    fn hear_next<L: Listener>(&mut self, listener: &mut L, due: Due) -> Result<(), Refusal>
+        requires { L.waits listener.old ≡ Some due }
+        ensures { elim result [ Ok _ ↦ Accepts (L.heard listener.old) (self.old.lines + 1) self.old.rest.now (L.heard listener.new) self.new.rest.now × (self.new.lines ≡ self.old.lines + 1) | Err e ↦ Refuses (L.heard listener.old) (self.old.lines + 1) self.old.rest.now e × (L.heard listener.new ≡ L.heard listener.old) × (self.new ≡ self.old) ] }
+    {
+        let at = self.lines + 1;
+        if self.rest.is_empty() {
+            return Err(Refusal::NotDue(at));
         }
+        let (line, rest) = next_line(self.rest).ok_or(Refusal::NoEnd(at))?;
+        hear_line(listener, due, line, at)?;
+        self.lines += 1;
+        self.rest = rest;
+        Ok(())
     }
-    Listened {
-        lines,
-        rest,
-        refusal: None,
+
+    // Listens to line after line until the part is whole or a line is refused.
+    pub(crate) fn listen<L: Listener>(&mut self, listener: &mut L) -> Result<(), Refusal>
+        ensures lines { (k : ℕ) × (self.new.lines ≡ self.old.lines + k) × Lines k (L.heard listener.old) (self.old.lines + 1) self.old.rest.now (L.heard listener.new) self.new.rest.now }
+        ensures stops { Halts (L.waits listener.new ≡ None) (L.heard listener.new) (self.new.lines + 1) self.new.rest.now (result_err result) }
+    {
+        while let Some(due) = listener.due() {
+            self.hear_next(listener, due)?;
+        }
+        Ok(())
     }
 }

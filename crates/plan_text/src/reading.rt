@@ -3,7 +3,7 @@ ghost use Rattle.plan_text.specs.Reads.{Reads};
 use crate::entries::Entries;
 use crate::head::Head;
 use crate::kind::Kind;
-use crate::listening::listen;
+use crate::listening::Place;
 use layout::refusal::Refusal;
 use plan::draft::Draft;
 
@@ -11,6 +11,7 @@ use plan::draft::Draft;
 pub const MOST_BYTES: usize = 65536;
 
 // What was read of a plan.
+// kept: a refused text leaves its measure, draft and lines too, so the refusal stands beside them and is no `Err`
 #[derive(Drop)]
 pub struct Reading {
     // the measure that it names, once that line was accepted
@@ -22,6 +23,7 @@ pub struct Reading {
     // how many lines were accepted
     pub lines: u32,
     // where the rest of the text begins, after the last accepted line
+    // kept: an index, since a slice would tie the reading to its text, which asks more of callers
     pub rest: usize,
 }
 
@@ -38,30 +40,29 @@ pub fn read_plan(text: &[u8]) -> Reading
             rest: 0,
         };
     }
+    let mut place = Place {
+        lines: 0,
+        rest: text,
+    };
     let mut head = Head::begin();
-    let first = listen(&mut head, text, 0);
-    if first.refusal.is_some() {
+    if let Err(refusal) = place.listen(&mut head) {
+        let lines = place.lines;
+        let rest = text.len() - place.rest.len();
         return Reading {
             kind: head.kind,
             draft: head.draft,
-            refusal: first.refusal,
-            lines: first.lines,
-            rest: text.len() - first.rest.len(),
+            refusal: Some(refusal),
+            lines,
+            rest,
         };
     }
     let mut entries = head.entries();
-    let then = listen(&mut entries, first.rest, first.lines);
-    let Entries {
-        kind,
-        draft,
-        points: _,
-        legs: _,
-    } = entries;
+    let refusal = place.listen(&mut entries).err();
     Reading {
-        kind: Some(kind),
-        draft: Some(draft),
-        refusal: then.refusal,
-        lines: first.lines + then.lines,
-        rest: text.len() - then.rest.len(),
+        kind: Some(entries.kind),
+        draft: Some(entries.draft),
+        refusal,
+        lines: place.lines,
+        rest: text.len() - place.rest.len(),
     }
 }

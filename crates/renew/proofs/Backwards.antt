@@ -16,7 +16,7 @@ use Rattle.walks.proofs.Exists.{best_exists}
 use Rattle.walks.proofs.Nets.{net_finite}
 use Rattle.walks.proofs.Results.{settled_best, traced_walk, found_all}
 use Rattle.walks.proofs.Turned.{turned_best}
-use Rattle.search.specs.Answered.{Desk}
+use Rattle.search.specs.Desk.{Desk}
 use Rattle.search.specs.Counted.{Counted}
 use Rattle.search.specs.Explored.{Left}
 use Rattle.renew.specs.Flags.{Distances}
@@ -81,7 +81,7 @@ module _ {T : Type 0} {m : Scale T} (laws : Lawful m) (p : Plant) (sound : Sound
   }
 
 -- what the search leaves past the junction count
-pub past_left : {T : Type 0} (m : Scale T) (p : Plant) (b : ℕ) (d d' : Desk T) (count : ℕ) → Left m p b None d.totals d.came d.waiting d.settled d'.totals d'.came d'.waiting d'.settled count → Counted p d'.settled count → Past (junctions p) d d'
+pub past_left : {T : Type 0} (m : Scale T) (p : Plant) (b : ℕ) (d d' : Desk T) (count : ℕ) → Left m p b None d d' count → Counted p d'.settled count → Past (junctions p) d d'
 past_left m p b d d' count left counted = record {
   totals = left.past_totals;
   came = left.past_came;

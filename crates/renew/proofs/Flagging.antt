@@ -8,7 +8,8 @@ use Rattle.marks.specs.declared.words.Marks.{Marks}
 use Rattle.walks.specs.Marks.{Entry, OnBest, Flagged}
 use Rattle.walks.specs.Net.{net, junctions, hall_at}
 use Rattle.walks.proofs.Nets.{net_finite}
-use Rattle.search.specs.Answered.{Desk}
+use Rattle.search.specs.Desk.{Desk, SameTables}
+use Rattle.search.specs.declared.tables.Tables.{Tables}
 use Rattle.renew.specs.Flags.{LeadsBest, FlaggedTo, Written}
 use Rattle.renew.specs.Renewed.{Past}
 use Rattle.renew.proofs.Writing.{written_same}
@@ -107,5 +108,16 @@ past_then n d e f first then = record {
   settled = then.settled ∙ first.settled;
 }
 
-pub both : {A B : Type 0} → A → B → A × B
-both a b = (a, b)
+pub same_then : {T : Type 0} {a b c : Tables T} → SameTables a b → SameTables b c → SameTables a c
+same_then first then = record {
+  totals = then.totals ∙ first.totals;
+  came = then.came ∙ first.came;
+  waiting = then.waiting ∙ first.waiting;
+  settled = then.settled ∙ first.settled;
+  as_many = record {
+    totals = then.as_many.totals ∙ first.as_many.totals;
+    came = then.as_many.came ∙ first.as_many.came;
+    waiting = then.as_many.waiting ∙ first.as_many.waiting;
+    settled = then.as_many.settled ∙ first.as_many.settled;
+  };
+}

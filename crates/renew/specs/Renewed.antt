@@ -9,7 +9,7 @@ use Rattle.walks.specs.Answers.{count_below}
 use Rattle.walks.specs.Book.{renew, blank, refusal_of}
 use Rattle.walks.specs.Marks.{Flagged}
 use Rattle.walks.specs.Net.{net, junctions, hall_at}
-use Rattle.search.specs.Answered.{Desk}
+use Rattle.search.specs.Desk.{Desk}
 use Rattle.renew.specs.Flags.{Written}
 
 -- why renewing is refused, as the crew's book has it: no such hall, then the first table that is too short

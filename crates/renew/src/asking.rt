@@ -1,4 +1,4 @@
-// What renewing asks of a layout: where junctions lie, which legs lie inside a hall, and which junctions are entries.
+// What renewing asks of a layout: which legs are open, what lies in a hall, and which junctions are its entries.
 ghost use Rattle.std.specs.Prelude.{◌≡◌, ◌<◌, true, false, Decides, MatchOption, ◌==◌};
 ghost use Rattle.walks.specs.Net.{net, leg_at, hall_at};
 ghost use Rattle.walks.specs.Marks.{Entry, BothEnds};
@@ -13,63 +13,64 @@ pub(crate) struct Ends {
     pub(crate) head: u32,
 }
 
-// Whether a junction lies in a hall.
-pub(crate) fn lies_in<L: Layout>(layout: &L, junction: u32, hall: u32) -> bool
-    requires { hall < (L.meaning layout.now).halls }
-    ensures { result ≡ (hall_at (L.meaning layout.now) junction == hall) }
-{
-    match layout.hall_of(junction) {
-        Some(found) => found == hall,
-        None => false,
-    }
-}
-
 // The ends of a leg that is open.
 pub(crate) fn open_ends<L: Layout>(layout: &L, leg: u32) -> Option<Ends>
     ensures { MatchOption result ((leg_at (L.meaning layout.now) leg).is_open ≡ false) (λ ends. ((leg_at (L.meaning layout.now) leg).is_open ≡ true) × (ends.tail ≡ (leg_at (L.meaning layout.now) leg).tail) × (ends.head ≡ (leg_at (L.meaning layout.now) leg).head)) }
 {
-    match (layout.is_open(leg), layout.tail(leg), layout.head(leg)) {
-        (Some(true), Some(tail), Some(head)) => Some(Ends { tail, head }),
-        _ => None,
+    if !layout.is_open(leg)? {
+        return None;
     }
+    Some(Ends {
+        tail: layout.tail(leg)?,
+        head: layout.head(leg)?,
+    })
 }
 
-// Whether a leg is open and lies inside a hall with both ends.
-pub(crate) fn lies_inside<L: Layout, M: Measure>(layout: &L, leg: u32, hall: u32) -> bool
-    requires { hall < (L.meaning layout.now).halls }
-    ensures { Decides result (((net M.scale (L.meaning layout.now)).usable leg ≡ true) × BothEnds (net M.scale (L.meaning layout.now)) (hall_at (L.meaning layout.now)) hall leg) }
-{
-    match open_ends(layout, leg) {
-        Some(ends) => lies_in(layout, ends.tail, hall) && lies_in(layout, ends.head, hall),
-        None => false,
-    }
+// A hall of a layout.
+#[derive(Drop)]
+pub(crate) struct Hall<'l, L: Layout> {
+    pub(crate) layout: &'l L,
+    pub(crate) number: u32,
+    ghost exists: { number < (L.meaning layout.now).halls },
 }
 
-// Whether a leg is open and comes from outside a hall.
-fn comes_from_outside<L: Layout>(layout: &L, leg: u32, hall: u32) -> bool
-    requires { hall < (L.meaning layout.now).halls }
-    ensures { Decides result (((leg_at (L.meaning layout.now) leg).is_open ≡ true) × ((hall_at (L.meaning layout.now) (leg_at (L.meaning layout.now) leg).tail == hall) ≡ false)) }
-{
-    match open_ends(layout, leg) {
-        Some(ends) => !lies_in(layout, ends.tail, hall),
-        None => false,
+impl<'l, L: Layout> Hall<'l, L> {
+    // Whether a junction lies in it.
+    fn holds(&self, junction: u32) -> bool
+        ensures { result ≡ (hall_at (L.Layout.meaning self.now.layout.now) junction == self.now.number) }
+    {
+        self.layout.hall_of(junction) == Some(self.number)
     }
-}
 
-// Whether a junction is an entry of a hall.
-pub(crate) fn is_entry<L: Layout, M: Measure>(layout: &L, junction: u32, hall: u32) -> bool
-    requires { hall < (L.meaning layout.now).halls }
-    ensures { Decides result (Entry (net M.scale (L.meaning layout.now)) (hall_at (L.meaning layout.now)) hall junction) }
-{
-    if !lies_in(layout, junction, hall) {
-        return false;
+    // Whether a leg is open and lies inside with both ends.
+    pub(crate) fn has_inside<M: Measure>(&self, leg: u32) -> bool
+        ensures { Decides result (((net M.scale (L.Layout.meaning self.now.layout.now)).usable leg ≡ true) × BothEnds (net M.scale (L.Layout.meaning self.now.layout.now)) (hall_at (L.Layout.meaning self.now.layout.now)) self.now.number leg) }
+    {
+        matches!(open_ends(self.layout, leg), Some(ends) if self.holds(ends.tail) && self.holds(ends.head))
     }
-    let mut from = 0;
-    while let Some(leg) = layout.reaching(junction, from) {
-        if comes_from_outside(layout, leg, hall) {
-            return true;
+
+    // Whether a leg is open and comes from outside.
+    fn is_entered_by(&self, leg: u32) -> bool
+        ensures { Decides result (((leg_at (L.Layout.meaning self.now.layout.now) leg).is_open ≡ true) × ((hall_at (L.Layout.meaning self.now.layout.now) (leg_at (L.Layout.meaning self.now.layout.now) leg).tail == self.now.number) ≡ false)) }
+    {
+        matches!(open_ends(self.layout, leg), Some(ends) if !self.holds(ends.tail))
+    }
+
+    // Whether a junction is one of its entries.
+    // kept: a chain by `successors` would ask for the first leg in one place and for the next in another.
+    pub(crate) fn is_entry<M: Measure>(&self, junction: u32) -> bool
+        ensures { Decides result (Entry (net M.scale (L.Layout.meaning self.now.layout.now)) (hall_at (L.Layout.meaning self.now.layout.now)) self.now.number junction) }
+    {
+        if !self.holds(junction) {
+            return false;
         }
-        from = leg + 1;
+        let mut from = 0;
+        while let Some(leg) = self.layout.reaching(junction, from) {
+            if self.is_entered_by(leg) {
+                return true;
+            }
+            from = leg + 1;
+        }
+        false
     }
-    false
 }

@@ -7,13 +7,14 @@ use Rattle.layout.specs.declared.refusal.Refusal.{Refusal}
 use Rattle.layers.specs.declared.sheet.Sheet.{Sheet}
 use Rattle.halls.specs.declared.force.HallMarks.{HallMarks}
 use Rattle.walks.specs.Answers.{Answer}
-use Rattle.walks.specs.Book.{Call, renew, route}
+use Rattle.walks.specs.Book.{Call, renew}
 use Rattle.router.specs.Ordered.{lapsed_answer, marked_answer}
 use Rattle.router.specs.Worked.{GoesOn}
 use Rattle.order_text.specs.declared.order.Order.{Order}
 use Rattle.replies.specs.Carried.{lapsed_reply, marked_reply, Roomy, Carried}
 use Rattle.replies.specs.Replied.{call_of}
 use Rattle.replies.specs.Written.{written, written_answer}
+use Rattle.replies.specs.declared.board.Board.{Board}
 use Rattle.replies.specs.declared.reply.Reply.{Reply}
 
 -- the first n of a list are n, so it has as many
@@ -21,12 +22,9 @@ pub enough : (n : ℕ) (l : List ℕ) → length (take n l) ≡ n → n ≤ leng
 enough n l e = omega (arith, length-take n l)
 
 -- calls with room for all junctions
-pub renew_roomy : (hall a b c d e : ℕ) → Roomy a b c d e → renew hall a b c d ≡ renew hall 256 256 256 256
-renew_roomy hall a b c d e room = let h = room.totals_room in let i = room.came_room in let j = room.waiting_room in let k = room.settled_room in cc
-
-pub route_roomy : (start goal a b c d e : ℕ) → Roomy a b c d e → route start goal a b c d e ≡ route start goal 256 256 256 256 256
-route_roomy start goal a b c d e room =
-    let h = room.totals_room in let i = room.came_room in let j = room.waiting_room in let k = room.settled_room in let l = room.way_room in cc
+pub renew_roomy : {T : Type 0} (hall : ℕ) (b : Board T) → Roomy b
+    → renew hall (length b.tables.totals.now) (length b.tables.came.now) (length b.tables.waiting.now) (length b.tables.settled.now) ≡ renew hall 256 256 256 256
+renew_roomy hall b room = let h = room.totals in let i = room.came in let j = room.waiting in let k = room.settled in cc
 
 module _ {T : Type 0} (m : Scale T) (shows : T → List ℕ) (p : Plant) (line : ℕ) (o : Order) (s s' : Sheet) (halls halls' : HallMarks) (old new : List ℕ) where
   lapsed_told : (r : Result ℕ Refusal) → written (lapsed_reply line r) ≡ written_answer shows line (lapsed_answer r)

@@ -5,7 +5,7 @@ use Rattle.measure.specs.Scale.{Scale, Lawful}
 use Rattle.measure.specs.Lawfulness.{time_lawful, clearance_lawful, turns_lawful}
 use Rattle.layout.specs.Plant.{Plant, Sound}
 use Rattle.layout.specs.declared.refusal.Refusal.{Refusal}
-use Rattle.plan.specs.Limited.{plan_sound}
+use Rattle.plan.specs.Limited.{sketch_sound}
 use Rattle.plan.specs.Meant.{sketched}
 use Rattle.plan.specs.declared.draft.Draft.{Draft}
 use Rattle.walks.specs.Answers.{Answer, Answered}
@@ -110,7 +110,7 @@ draft_sound : (o : Option Draft) (p : Plant) → option_map sketched o ≡ Some 
 draft_sound None p e = absurd (grind arith)
 draft_sound (Some d) p e =
     let is : sketched d ≡ p = cc in
-    subst Sound is (plan_sound (record { drawing = d.drawing; kept = d.kept }))
+    subst Sound is (sketch_sound d)
 
 -- the same reading gets the same replies
 one_after :

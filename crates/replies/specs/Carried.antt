@@ -1,5 +1,5 @@
 -- What carrying out one order writes and does. Assumes nothing.
-use Rattle.std.specs.Prelude.{◌≡◌, ℕ, ◌⊎◌, List, ◌++◌, Ok, Err, Result}
+use Rattle.std.specs.Prelude.{◌≡◌, ℕ, ◌⊎◌, List, ◌++◌, length, Ok, Err, Result}
 use Rattle.measure.specs.Scale.{Scale}
 use Rattle.layout.specs.Plant.{Plant}
 use Rattle.layout.specs.Refused.{in_line}
@@ -12,16 +12,17 @@ use Rattle.order_text.specs.Orders.{ReadsOrder}
 use Rattle.order_text.specs.declared.order.Order.{Order}
 use Rattle.replies.specs.Written.{written, written_answer}
 use Rattle.replies.specs.Replied.{call_of}
+use Rattle.replies.specs.declared.board.Board.{Board}
 use Rattle.replies.specs.declared.reply.Reply.{Reply}
 use Rattle.replies.specs.declared.reply.Reply.TheVariants.{Lapsed, Marked, Refused}
 
 -- each table has the places that the calls are made with
-pub record Roomy (totals came waiting settled way : ℕ) : Type 0 where
-  pub totals_room : totals ≡ 256
-  pub came_room : came ≡ 256
-  pub waiting_room : waiting ≡ 256
-  pub settled_room : settled ≡ 256
-  pub way_room : way ≡ 256
+pub record Roomy {T : Type 0} (b : Board T) : Type 0 where
+  pub totals : length b.tables.totals.now ≡ 256
+  pub came : length b.tables.came.now ≡ 256
+  pub waiting : length b.tables.waiting.now ≡ 256
+  pub settled : length b.tables.settled.now ≡ 256
+  pub way : length b.way.now ≡ 256
 
 -- what is said of an order on the day sheet, from the line of that number
 abbrev pub lapsed_reply : ℕ → Result ℕ Refusal → Reply

@@ -1,6 +1,6 @@
 -- How replies are written. Assumes nothing.
 use Rattle.std.specs.Prelude.{ℕ, List, [], ◌∷◌, ◌++◌, codes, decimal}
-use Rattle.layout.specs.Refused.{number_of, figure_of, in_line}
+use Rattle.layout.specs.Refused.{refusal_written, in_line}
 use Rattle.walks.specs.Answers.{Answer, halls, legs, found, refused}
 use Rattle.replies.specs.declared.reply.Reply.{Reply}
 use Rattle.replies.specs.declared.reply.Reply.TheVariants.{Plan, Lapsed, Marked, Refused}
@@ -14,7 +14,7 @@ abbrev pub written : Reply → List ℕ
 written (Plan points belts rooms) = codes "plan=" ++ (decimal points ++ (codes "," ++ (decimal belts ++ (codes "," ++ (decimal rooms ++ end)))))
 written (Lapsed n) = codes "lapsed=" ++ (decimal n ++ end)
 written (Marked n) = codes "marked=" ++ (decimal n ++ end)
-written (Refused r) = codes "refused=" ++ (decimal (number_of r) ++ (end ++ (codes "figure=" ++ (decimal (figure_of r) ++ end))))
+written (Refused r) = refusal_written r ++ end
 
 -- numbers after a first one, each with its comma
 abbrev pub followed : List ℕ → List ℕ

@@ -1,13 +1,12 @@
 // A text is answered: its plan, and then its orders.
-ghost use Rattle.std.specs.Prelude.{◌≡◌, ◌+◌, ◌≤◌, [], length, string_bytes, OnOk};
+ghost use Rattle.std.specs.Prelude.{◌≡◌, [], length, string_bytes, OnOk};
 ghost use Rattle.plan.specs.Meant.{planned};
-ghost use Rattle.plan_text.specs.Reads.{most_bytes};
-ghost use Rattle.plan_text.specs.declared.kind.Kind.TheVariants as kind;
 ghost use Rattle.router.specs.Worked.{Worked};
 ghost use Rattle.replies.specs.Carried.{Roomy};
 ghost use Rattle.replies.specs.Replied.{plan_reply, OrderReplies, RepliesBy, Replies, Said};
 
-use crate::carrying::answer_line;
+use crate::board::Board;
+use crate::orders::Orders;
 use crate::reply::Reply;
 use crate::saying::say;
 use layout::asking::Layout;
@@ -17,7 +16,7 @@ use plan::draft::Plan;
 use plan_text::kind::Kind;
 use plan_text::reading::read_plan;
 use router::router::Router;
-use search::Slot;
+use search::{Slot, Tables};
 use std::alloc::{AllocError, Allocator};
 use tokens::next_line;
 
@@ -32,115 +31,83 @@ fn describe(plan: &Plan) -> Reply
     }
 }
 
-// Answers the lines after a plan of so many lines, on a router that was just commissioned.
-fn answer_orders<M: Printing, A: Allocator>(
-    out: &mut String<A>,
-    router: &mut Router<Plan, M>,
-    orders: &[u8],
-    lines: u32,
-    totals: &mut [M],
-    came: &mut [u16],
-    waiting: &mut [Slot<M>],
-    settled: &mut [u16],
-    way: &mut [u16],
-) -> Result<(), AllocError>
-    requires short { lines + length orders.now ≤ most_bytes }
-    requires room { Roomy (length totals.old) (length came.old) (length waiting.old) (length settled.old) (length way.old) }
-    requires fresh { Worked M.Measure.scale (planned router.old.sheet.below) [] router.old.sheet.sheet router.old.halls }
-    ensures { OnOk result (Said (OrderReplies M.Measure.scale M.Printing.written (planned router.old.sheet.below) [] lines orders.now) (string_bytes out.old) (string_bytes out.new)) }
-{
-    let mut rest = orders;
-    let mut line = lines;
-    while !rest.is_empty() {
-        line += 1;
-        let Some((bytes, after)) = next_line(rest) else {
-            return say(out, Reply::Refused(Refusal::NoEnd(line)));
-        };
-        answer_line(
-            out, router, bytes, line, totals, came, waiting, settled, way,
-        )?;
-        rest = after;
+impl<'t, M: Printing> Board<'t, M> {
+    // Answers the lines after a plan, on a router that was just commissioned.
+    fn answer_orders<A: Allocator>(
+        &mut self,
+        out: &mut String<A>,
+        orders: Orders,
+    ) -> Result<(), AllocError>
+        requires room { Roomy self.old }
+        requires fresh { Worked M.Measure.scale (planned self.old.router.sheet.below) [] self.old.router.sheet.sheet self.old.router.halls }
+        ensures { OnOk result (Said (OrderReplies M.Measure.scale M.Printing.written (planned self.old.router.sheet.below) [] orders.entry.lines orders.entry.bytes.now) (string_bytes out.old) (string_bytes out.new)) }
+    {
+        let mut rest = orders.bytes;
+        let mut line = orders.lines;
+        while !rest.is_empty() {
+            line += 1;
+            let Some((bytes, after)) = next_line(rest) else {
+                return say(out, Reply::Refused(Refusal::NoEnd(line)));
+            };
+            self.answer_line(out, bytes, line)?;
+            rest = after;
+        }
+        Ok(())
     }
-    Ok(())
 }
 
 // Commissions the plan for a measure, and answers the lines after it. The memory for totals is lent, each table with a place for every junction.
 fn answer_by<M: Printing, A: Allocator>(
     out: &mut String<A>,
     plan: Plan,
-    orders: &[u8],
-    lines: u32,
+    orders: Orders,
     totals: &mut [M],
     waiting: &mut [Slot<M>],
 ) -> Result<(), AllocError>
-    requires short { lines + length orders.now ≤ most_bytes }
     requires totals { length totals.old ≡ 256 }
     requires waiting { length waiting.old ≡ 256 }
-    ensures { OnOk result (Said (OrderReplies M.Measure.scale M.Printing.written (planned plan) [] lines orders.now) (string_bytes out.old) (string_bytes out.new)) }
+    ensures { OnOk result (Said (OrderReplies M.Measure.scale M.Printing.written (planned plan) [] orders.entry.lines orders.entry.bytes.now) (string_bytes out.old) (string_bytes out.new)) }
 {
-    let mut router = Router::<Plan, M>::commission(plan);
     let mut came = [0; 256];
     let mut settled = [0; 256];
     let mut way = [0; 256];
-    answer_orders(
-        out,
-        &mut router,
-        orders,
-        lines,
+    let tables = Tables {
         totals,
-        &mut came,
+        came: &mut came,
         waiting,
-        &mut settled,
-        &mut way,
-    )
+        settled: &mut settled,
+    };
+    let mut board = Board {
+        router: Router::commission(plan),
+        tables,
+        way: &mut way,
+    };
+    board.answer_orders(out, orders)
 }
 
-// Answers the lines after a plan by time.
-fn answer_by_time<A: Allocator>(
+// Answers the lines after a plan by the measure of that kind. The memory for totals is made here, where their size is known.
+fn answer_by_kind<A: Allocator>(
     out: &mut String<A>,
+    kind: Kind,
     plan: Plan,
-    orders: &[u8],
-    lines: u32,
+    orders: Orders,
 ) -> Result<(), AllocError>
-    requires { lines + length orders.now ≤ most_bytes }
-    ensures { OnOk result (Said (RepliesBy kind.Time (planned plan) lines orders.now) (string_bytes out.old) (string_bytes out.new)) }
+    ensures { OnOk result (Said (RepliesBy kind (planned plan) orders.entry.lines orders.entry.bytes.now) (string_bytes out.old) (string_bytes out.new)) }
 {
-    let total = Tenths::unit();
-    let mut totals = [total; 256];
-    let mut waiting = [Slot { total, number: 0 }; 256];
-    answer_by(out, plan, orders, lines, &mut totals, &mut waiting)
-}
-
-// Answers the lines after a plan by clearance.
-fn answer_by_clearance<A: Allocator>(
-    out: &mut String<A>,
-    plan: Plan,
-    orders: &[u8],
-    lines: u32,
-) -> Result<(), AllocError>
-    requires { lines + length orders.now ≤ most_bytes }
-    ensures { OnOk result (Said (RepliesBy kind.Clearance (planned plan) lines orders.now) (string_bytes out.old) (string_bytes out.new)) }
-{
-    let total = Headroom::unit();
-    let mut totals = [total; 256];
-    let mut waiting = [Slot { total, number: 0 }; 256];
-    answer_by(out, plan, orders, lines, &mut totals, &mut waiting)
-}
-
-// Answers the lines after a plan by time, and then by turns.
-fn answer_by_turns<A: Allocator>(
-    out: &mut String<A>,
-    plan: Plan,
-    orders: &[u8],
-    lines: u32,
-) -> Result<(), AllocError>
-    requires { lines + length orders.now ≤ most_bytes }
-    ensures { OnOk result (Said (RepliesBy kind.TimeThenTurns (planned plan) lines orders.now) (string_bytes out.old) (string_bytes out.new)) }
-{
-    let total = TimeTurns::unit();
-    let mut totals = [total; 256];
-    let mut waiting = [Slot { total, number: 0 }; 256];
-    answer_by(out, plan, orders, lines, &mut totals, &mut waiting)
+    // kept: a macro, since an array of a type parameter's values asks for a bound on their size, which no clause can give
+    macro_rules! answer_by_total {
+        ($total:ty) => {{
+            let total = <$total>::unit();
+            let mut totals = [total; 256];
+            let mut waiting = [Slot { total, number: 0 }; 256];
+            answer_by(out, plan, orders, &mut totals, &mut waiting)
+        }};
+    }
+    match kind {
+        Kind::Time => answer_by_total!(Tenths),
+        Kind::Clearance => answer_by_total!(Headroom),
+        Kind::TimeThenTurns => answer_by_total!(TimeTurns),
+    }
 }
 
 // Writes the whole answer to a text at the end of `out`: what its plan holds, or the refusal that the plan earned, and then what its orders earn.
@@ -158,10 +125,9 @@ pub fn answer<A: Allocator>(out: &mut String<A>, text: &[u8]) -> Result<(), Allo
     let plan = draft.finish();
     say(out, describe(&plan))?;
     let rest = reading.rest;
-    let orders = &text[rest..];
-    match kind {
-        Kind::Time => answer_by_time(out, plan, orders, reading.lines),
-        Kind::Clearance => answer_by_clearance(out, plan, orders, reading.lines),
-        Kind::TimeThenTurns => answer_by_turns(out, plan, orders, reading.lines),
-    }
+    let orders = Orders {
+        lines: reading.lines,
+        bytes: &text[rest..],
+    };
+    answer_by_kind(out, kind, plan, orders)
 }

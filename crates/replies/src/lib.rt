@@ -3,7 +3,9 @@
 
 pub mod agreeing;
 pub mod answering;
+mod board;
 mod carrying;
+mod orders;
 pub mod reply;
 mod saying;
 pub mod way;

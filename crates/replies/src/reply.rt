@@ -34,11 +34,7 @@ impl fmt::Display for Reply {
             } => writeln!(f, "plan={junctions},{legs},{halls}"),
             Reply::Lapsed(halls) => writeln!(f, "lapsed={halls}"),
             Reply::Marked(legs) => writeln!(f, "marked={legs}"),
-            Reply::Refused(refusal) => {
-                let number = refusal.number();
-                let figure = refusal.figure();
-                writeln!(f, "refused={number}\nfigure={figure}")
-            }
+            Reply::Refused(refusal) => writeln!(f, "{refusal}"),
         }
     }
 }

@@ -8,6 +8,7 @@ use measure::Printing;
 use std::alloc::{AllocError, Allocator};
 
 // Writes one reply at the end of `out`.
+// kept: this and the next are a line each, and name the bytes of what they write; one over any `Display` would leave that to each caller.
 pub(crate) fn say<A: Allocator>(out: &mut String<A>, reply: Reply) -> Result<(), AllocError>
     ensures { OnOk result (string_bytes out.new ≡ string_bytes out.old ++ written reply) }
 {

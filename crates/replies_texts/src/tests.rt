@@ -12,6 +12,7 @@ struct Case {
 }
 
 // Answers each text of a table, and compares.
+// kept: the tests of plan texts have their own, for another answer; a shared crate would export a helper of tests.
 fn run(rt: &impl Abort, heap: Global, cases: &[Case]) -> Result<(), Fail> {
     for case in cases {
         let mut out = String::new(heap);

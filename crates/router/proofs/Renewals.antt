@@ -19,7 +19,7 @@ use Rattle.walks.specs.Net.{net, hall_at}
 use Rattle.walks.specs.Orders.{Marks, Acts, Turns}
 use Rattle.walks.specs.Orders.{Renewed as RenewedMarks}
 use Rattle.walks.proofs.Nets.{net_finite}
-use Rattle.search.specs.Answered.{Desk}
+use Rattle.search.specs.Desk.{Desk}
 use Rattle.renew.specs.Flags.{Written}
 use Rattle.renew.specs.Renewed.{Renewed}
 use Rattle.router.specs.Ordered.{marked_answer}

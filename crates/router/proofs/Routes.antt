@@ -23,7 +23,7 @@ use Rattle.walks.specs.Search.{State, Searched}
 use Rattle.walks.proofs.Choosing.{none_some, some_same}
 use Rattle.walks.proofs.Left.{marks_left}
 use Rattle.walks.proofs.Promise.{crew_promise}
-use Rattle.search.specs.Answered.{Desk}
+use Rattle.search.specs.Desk.{Desk}
 use Rattle.search.specs.Answered.{shown as shown_state}
 use Rattle.search.proofs.Guiding.{goal_there}
 use Rattle.search.specs.Counted.{AllCounted}

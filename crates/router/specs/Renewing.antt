@@ -10,7 +10,7 @@ use Rattle.halls.specs.declared.force.Force.{Force}
 use Rattle.halls.specs.declared.force.HallMarks.{HallMarks}
 use Rattle.walks.specs.Book.{Call}
 use Rattle.walks.specs.Book.{renew as renew_call}
-use Rattle.search.specs.Answered.{Desk}
+use Rattle.search.specs.Desk.{Desk}
 use Rattle.renew.specs.Renewed.{Renewed}
 use Rattle.router.specs.Ordered.{marked_answer}
 use Rattle.router.specs.Worked.{GoesOn}

@@ -15,7 +15,7 @@ use Rattle.walks.specs.Net.{net, hall_at}
 use Rattle.walks.specs.Orders.{Marks, Left}
 use Rattle.walks.specs.Promise.{KeptPromise}
 use Rattle.walks.specs.Search.{State, Searched}
-use Rattle.search.specs.Answered.{Desk}
+use Rattle.search.specs.Desk.{Desk}
 use Rattle.search.specs.Answered.{shown as shown_state}
 use Rattle.search.specs.declared.found.Found.{Found}
 use Rattle.router.specs.Worked.{Worked}

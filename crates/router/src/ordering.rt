@@ -6,6 +6,7 @@ ghost use Rattle.layers.specs.Day.{blank, signed, figured, refuses_sign, refuses
 ghost use Rattle.marks.specs.Mark.{is_marked, possible};
 ghost use Rattle.search.specs.Answered.{Answered};
 ghost use Rattle.search.specs.Counted.{AllCounted};
+ghost use Rattle.search.specs.Desk.{held, SameTables};
 ghost use Rattle.walks.specs.Net.{hall_at};
 ghost use Rattle.walks.specs.Book.{shut, reopen, set as set_order};
 ghost use Rattle.router.specs.Ordered.{Lapses, Carries};
@@ -23,7 +24,7 @@ use layout::refusal::Refusal;
 use marks::marked::Marked;
 use measure::Measure;
 use renew::renew as renew_marks;
-use search::{Found, Slot, search};
+use search::{Found, Tables, search};
 use std::marker::PhantomData;
 use walks::weigh;
 
@@ -70,10 +71,8 @@ impl<L: Layout, M: Measure> Router<L, M> {
         ensures below { self.new.sheet.below ≡ self.old.sheet.below }
         ensures order { Carries M.scale (L.Layout.meaning self.old.sheet.below) (shut leg) (refuses_sign (L.Layout.meaning self.old.sheet.below) self.old.sheet.sheet leg true) (strike.Marking leg) (signed self.old.sheet.sheet leg true) self.old.sheet.sheet self.new.sheet.sheet self.old.halls self.new.halls result }
     {
-        match self.sheet.shut(leg) {
-            Ok(()) => Ok(self.lapse(Strikes::Marking(leg))),
-            Err(refusal) => Err(refusal),
-        }
+        self.sheet.shut(leg)?;
+        Ok(self.lapse(Strikes::Marking(leg)))
     }
 
     // Opens a leg that was shut: every hall in force lapses. The answer is how many.
@@ -81,10 +80,8 @@ impl<L: Layout, M: Measure> Router<L, M> {
         ensures below { self.new.sheet.below ≡ self.old.sheet.below }
         ensures order { Carries M.scale (L.Layout.meaning self.old.sheet.below) (reopen leg) (refuses_sign (L.Layout.meaning self.old.sheet.below) self.old.sheet.sheet leg false) strike.Every (signed self.old.sheet.sheet leg false) self.old.sheet.sheet self.new.sheet.sheet self.old.halls self.new.halls result }
     {
-        match self.sheet.open(leg) {
-            Ok(()) => Ok(self.lapse(Strikes::Every)),
-            Err(refusal) => Err(refusal),
-        }
+        self.sheet.open(leg)?;
+        Ok(self.lapse(Strikes::Every))
     }
 
     // Gives a leg another class and clearance. Where it is open and gets lighter every hall in force lapses, and where it gets heavier those for which it is marked.
@@ -94,53 +91,28 @@ impl<L: Layout, M: Measure> Router<L, M> {
         ensures order { Carries M.scale (L.Layout.meaning self.old.sheet.below) (set_order leg class clearance) (refuses_set (L.Layout.meaning self.old.sheet.below) leg class clearance) (set_strikes M.scale (L.Layout.meaning self.old.sheet.below) self.old.sheet.sheet leg class clearance) (figured self.old.sheet.sheet leg class clearance) self.old.sheet.sheet self.new.sheet.sheet self.old.halls self.new.halls result }
     {
         let old = weigh_open::<DaySheet<L>, M>(&self.sheet, leg);
-        match self.sheet.set(leg, class, clearance) {
-            Ok(()) => {
-                let new = weigh::<DaySheet<L>, M>(&self.sheet, leg);
-                Ok(self.lapse(struck_by(leg, old, new)))
-            }
-            Err(refusal) => Err(refusal),
-        }
+        self.sheet.set(leg, class, clearance)?;
+        let new = weigh::<DaySheet<L>, M>(&self.sheet, leg);
+        Ok(self.lapse(struck_by(leg, old, new)))
     }
 
     // Renews a hall: its marks are those of the definition on the layout as it stands, and it is in force. The answer is how many legs are marked.
     // The tables are free below the junction count.
-    pub fn renew(
-        &mut self,
-        hall: u32,
-        totals: &mut [M],
-        came: &mut [u16],
-        waiting: &mut [Slot<M>],
-        settled: &mut [u16],
-    ) -> Result<u32, Refusal>
+    pub fn renew(&mut self, hall: u32, tables: &mut Tables<M>) -> Result<u32, Refusal>
         ensures sheet { self.new.sheet ≡ self.old.sheet }
-        ensures renewed { RenewsHall M.scale (L.Layout.meaning self.old.sheet.below) hall self.old.sheet.sheet self.old.halls self.new.halls (record { totals = totals.old; came = came.old; waiting = waiting.old; settled = settled.old }) (record { totals = totals.new; came = came.new; waiting = waiting.new; settled = settled.new }) result }
+        ensures renewed { RenewsHall M.scale (L.Layout.meaning self.old.sheet.below) hall self.old.sheet.sheet self.old.halls self.new.halls (held tables.old) (held tables.new) result }
+        ensures lent { SameTables tables.old tables.new }
     {
-        match renew_marks(
-            &self.sheet,
-            &mut self.halls.marks,
-            hall,
-            totals,
-            came,
-            waiting,
-            settled,
-        ) {
-            Ok(count) => {
-                self.halls.force.put(hall, true);
-                Ok(count)
-            }
-            Err(refusal) => Err(refusal),
-        }
+        let count = renew_marks(&self.sheet, &mut self.halls.marks, hall, tables)?;
+        self.halls.force.put(hall, true);
+        Ok(count)
     }
 
     // The hall whose marks a route to the goal goes by; past the last hall where there is no such goal.
     fn hall_towards(&self, goal: u32) -> u32
         ensures { result ≡ hall_at (L.Layout.meaning self.now.sheet.below) goal }
     {
-        match self.sheet.hall_of(goal) {
-            Some(hall) => hall,
-            None => self.sheet.halls(),
-        }
+        self.sheet.hall_of(goal).unwrap_or(self.sheet.halls())
     }
 
     // Finds a best way from the start to the goal over the open legs, by the marks of the goal's hall, and writes it, first leg first.
@@ -148,19 +120,17 @@ impl<L: Layout, M: Measure> Router<L, M> {
         &self,
         start: u32,
         goal: u32,
-        totals: &mut [M],
-        came: &mut [u16],
-        waiting: &mut [Slot<M>],
-        settled: &mut [u16],
+        tables: &mut Tables<M>,
         way: &mut [u16],
     ) -> Result<Found<M>, Refusal>
-        ensures answer { Answered M.scale (seen (L.Layout.meaning self.now.sheet.below) self.now.sheet.sheet self.now.halls goal) start goal (record { totals = totals.old; came = came.old; waiting = waiting.old; settled = settled.old }) way.old (record { totals = totals.new; came = came.new; waiting = waiting.new; settled = settled.new }) way.new result }
-        ensures counted { AllCounted (seen (L.Layout.meaning self.now.sheet.below) self.now.sheet.sheet self.now.halls goal) settled.new result }
-        ensures book { GoesOn M.scale (L.Layout.meaning self.now.sheet.below) (routing start goal (record { totals = totals.old; came = came.old; waiting = waiting.old; settled = settled.old }) way.old) (route_answer result way.new) self.now.sheet.sheet self.now.halls self.now.sheet.sheet self.now.halls }
-        ensures promise { KeepsPromise M.scale (L.Layout.meaning self.now.sheet.below) self.now.sheet.sheet self.now.halls start goal (record { totals = totals.old; came = came.old; waiting = waiting.old; settled = settled.old }) way.old (record { totals = totals.new; came = came.new; waiting = waiting.new; settled = settled.new }) way.new result }
+        ensures answer { Answered M.scale (seen (L.Layout.meaning self.now.sheet.below) self.now.sheet.sheet self.now.halls goal) start goal (held tables.old) way.old (held tables.new) way.new result }
+        ensures counted { AllCounted (seen (L.Layout.meaning self.now.sheet.below) self.now.sheet.sheet self.now.halls goal) tables.new.settled.now result }
+        ensures book { GoesOn M.scale (L.Layout.meaning self.now.sheet.below) (routing start goal (held tables.old) way.old) (route_answer result way.new) self.now.sheet.sheet self.now.halls self.now.sheet.sheet self.now.halls }
+        ensures promise { KeepsPromise M.scale (L.Layout.meaning self.now.sheet.below) self.now.sheet.sheet self.now.halls start goal (held tables.old) way.old (held tables.new) way.new result }
+        ensures lent { SameTables tables.old tables.new }
     {
         let hall = self.hall_towards(goal);
         let marked = Marked::over(&self.sheet, &self.halls.marks, hall);
-        search(&marked, start, goal, totals, came, waiting, settled, way)
+        search(&marked, start, goal, tables, way)
     }
 }

@@ -14,10 +14,10 @@ use walks::weigh;
 pub(crate) fn weigh_open<L: Layout, M: Measure>(layout: &L, leg: u32) -> Option<M>
     ensures { result ≡ open_weight M.scale (L.meaning layout.now) leg }
 {
-    match layout.is_open(leg) {
-        Some(true) => weigh::<L, M>(layout, leg),
-        _ => None,
+    if !layout.is_open(leg)? {
+        return None;
     }
+    weigh::<L, M>(layout, leg)
 }
 
 // Whom it strikes that an open leg of weight `old`, if there is one, now has weight `new`.

@@ -10,6 +10,7 @@ pub mod Leaving
 pub mod OneStep
 pub mod Beginning
 pub mod Fronts
+pub mod Sizes
 pub mod Ending
 pub mod Earlier
 pub mod Tails

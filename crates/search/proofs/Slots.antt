@@ -1,8 +1,12 @@
 -- What putting in, lowering and taking out do to slots that hold different numbers. Assumes nothing.
-use Rattle.std.proofs.Common.{◌≡◌, ℕ, zero, suc, ◌+◌, ◌<◌, true, false, cond, not, eqb, List, [], ◌∷◌, ◌++◌, length, get_or, take, set, is_some, Some, None, Option, sym, refl, ap, ◌∙◌, subst, ⊎_elim, arith}
+use Rattle.std.proofs.Common.{◌≡◌, ℕ, zero, suc, ◌<◌, ◌≤◌, true, false, cond, not, eqb, List, [], ◌∷◌, ◌++◌, length, get_or, take, set, is_some, Some, None, Option, sym, refl, ap, ◌∙◌, subst, ⊎_elim, arith}
+use Rattle.std.specs.List.{HoldsAt, position, position_or_len}
 use Rattle.std.specs.Map.{update}
-use Rattle.std.proofs.lemmas.List.{take_more}
-use Rattle.std.proofs.lemmas.Bool.{and_parts, and_from, cases_Bool, eqb-true, eqb-false, eq-eqb, ne_eqb, cond-true, cond-false}
+use Rattle.std.specs.Option.{MatchOption}
+use Rattle.std.proofs.lemmas.List.{length-take-le, get_or-take}
+use Rattle.std.specs.Prelude.{◌==◌}
+use Rattle.std.proofs.lemmas.List.Sums.{passes_at_first, fails_before_first}
+use Rattle.std.proofs.lemmas.Bool.{lt-ltb, le-ltb, cases_lt, and_parts, and_from, cases_Bool, eqb-true, eqb-false, eq-eqb, ne_eqb, cond-true, cond-false}
 use Rattle.search.specs.declared.slot.Slot.{Slot}
 use Rattle.search.specs.Waiting.{total_of, apart}
 
@@ -65,10 +69,6 @@ module _ {M : Type 0} where
   last_lacks : (xs : List (Slot M)) (s : Slot M) (q : ℕ) → (s.number ≡ q → ⊥) → total_of xs q ≡ None → total_of (xs ++ (s ∷ [])) q ≡ None
   last_lacks [] s q other none = cond-false _ _ _ (ne_eqb q s.number (λ e. other (sym e)))
   last_lacks (w ∷ xs) s q other none = cond-false _ _ _ (not_first w xs q none) ∙ last_lacks xs s q other (not_others w xs q none)
-
-  pub lacks_more : (xs : List (Slot M)) (i q : ℕ) (s : Slot M) → i < length xs → s ≡ get_or xs i s → (s.number ≡ q → ⊥) → total_of (take i xs) q ≡ None → total_of (take (i + 1) xs) q ≡ None
-  lacks_more xs i q s lt read other none =
-      ap (λ l. total_of l q) (take_more xs i s lt) ∙ last_lacks (take i xs) (get_or xs i s) q (λ e. other (ap (λ t. t.number) read ∙ e)) none
 
   -- one slot more at the end, with a number that does not wait
   pub put_total : (xs : List (Slot M)) (s : Slot M) → total_of xs s.number ≡ None → (q : ℕ) → total_of (xs ++ (s ∷ [])) q ≡ written_at (total_of xs) s.number (Some s.total) q
@@ -171,3 +171,25 @@ module _ {M : Type 0} where
       and_from _ _
       (none_to _ (taken_total ws x at s more (omega arith) e w.number ∙ ⊎_elim (λ t. cond-true _ _ _ t) (λ f. cond-false _ _ _ f ∙ others_lack w _ a) (cases_Bool (eqb w.number s.number))))
       (taken_apart ws x at s more (omega arith) e)
+
+  -- where no slot has the number, it does not wait
+  lacks_all : (xs : List (Slot M)) (q : ℕ) → ((k : ℕ) (d : Slot M) → k < length xs → eqb (get_or xs k d).number q ≡ false) → total_of xs q ≡ None
+  lacks_all [] q others = refl
+  lacks_all (w ∷ xs) q others = cond-false _ _ _ (eqb_swap q w.number ∙ others 0 w (omega arith)) ∙ lacks_all xs q (λ k d less. others (suc k) d (omega arith))
+
+  -- the first of n slots with a number, if there is one
+  pub place_found : (n : ℕ) (xs : List (Slot M)) (q : ℕ) → n ≤ length xs
+      → MatchOption (position (λ s. s.number == q) (take n xs)) (total_of (take n xs) q ≡ None) (λ k. (k < n) × HoldsAt (λ s. s.number ≡ q) xs k)
+  place_found n xs q within =
+      let first = take n xs in
+      let long = length-take-le n xs within in
+      let i = position_or_len (λ s. s.number == q) first in
+      ⊎_elim
+      (λ less.
+      let inside : i < n = omega arith in
+      subst (λ b. MatchOption (cond b (Some i) None) (total_of first q ≡ None) (λ k. (k < n) × HoldsAt (λ s. s.number ≡ q) xs k)) (sym (lt-ltb i (length first) less))
+      (inside, λ d. ap (λ s. s.number) (sym (get_or-take n xs i d inside)) ∙ eqb-true _ q (passes_at_first (λ s. s.number == q) first d less)))
+      (λ past.
+      subst (λ b. MatchOption (cond b (Some i) None) (total_of first q ≡ None) (λ k. (k < n) × HoldsAt (λ s. s.number ≡ q) xs k)) (sym (le-ltb i (length first) past))
+      (lacks_all first q (λ k d less. fails_before_first (λ s. s.number == q) first k d (omega arith))))
+      (cases_lt i (length first))

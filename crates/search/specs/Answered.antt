@@ -1,5 +1,5 @@
 -- What a search for a goal answers, and what it leaves. Assumes nothing.
-use Rattle.std.specs.Prelude.{◌≡◌, ℕ, ◌⊎◌, List, [], ◌∷◌, length, take, drop, Some, None, Ok, Err, Option, Result, nat_lt}
+use Rattle.std.specs.Prelude.{◌≡◌, ℕ, ◌⊎◌, List, [], ◌∷◌, ◌++◌, length, take, drop, Some, None, Ok, Err, Option, Result, nat_lt}
 use Rattle.measure.specs.Scale.{Scale}
 use Rattle.layout.specs.Plant.{Plant}
 use Rattle.layout.specs.Refused.{refuse_unless}
@@ -10,16 +10,9 @@ use Rattle.walks.specs.Net.{Net, net, junctions}
 use Rattle.walks.specs.Search.{State, Settled, Traced}
 use Rattle.walks.specs.Tables.{tabled}
 use Rattle.walks.specs.Walk.{Walk, Leads, total, Best}
+use Rattle.search.specs.Desk.{Desk, sizes}
 use Rattle.search.specs.Explored.{Left}
 use Rattle.search.specs.declared.found.Found.{Found}
-use Rattle.search.specs.declared.slot.Slot.{Slot}
-
--- the four tables that a search works in
-pub record Desk (T : Type 0) : Type 0 where
-  pub totals : List T
-  pub came : List ℕ
-  pub waiting : List (Slot T)
-  pub settled : List ℕ
 
 -- the state that the tables show when so many junctions were settled
 abbrev pub shown : {T : Type 0} → Scale T → Plant → ℕ → Desk T → ℕ → State T
@@ -27,15 +20,14 @@ shown m p start d count = tabled m start (take (junctions p) d.totals) (take (ju
 
 -- the search for the goal ended so, with the tables d before and d' after
 abbrev pub Ended : {T : Type 0} → Scale T → Plant → ℕ → ℕ → Desk T → Desk T → ℕ → Type 0
-Ended m p start goal d d' count =
-    Left m p start (Some goal) d.totals d.came d.waiting d.settled d'.totals d'.came d'.waiting d'.settled count
+Ended m p start goal d d' count = Left m p start (Some goal) d d' count
 
 -- why a search for a goal is refused before it begins: no such start, no such goal, then the first table that is too short
 abbrev pub search_due : {T : Type 0} → Plant → ℕ → ℕ → Desk T → List ℕ → Option Refusal
 search_due p start goal d way =
     refuse_unless (nat_lt start (junctions p)) (NoJunction 1) (
     refuse_unless (nat_lt goal (junctions p)) (NoJunction 2) (
-    short_table (junctions p) 1 (length d.totals ∷ length d.came ∷ length d.waiting ∷ length d.settled ∷ length way ∷ [])))
+    short_table (junctions p) 1 (sizes d ++ (length way ∷ []))))
 
 -- the goal was settled in state s: its total is the best one, and the way that came-by leads back over is a best walk
 pub record Reached {T : Type 0} (m : Scale T) (g : Net T) (start goal : ℕ) (s : State T) (way way' : List ℕ) (f : Found T) : Type 0 where

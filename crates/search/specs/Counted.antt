@@ -7,7 +7,7 @@ use Rattle.layout.specs.declared.refusal.Refusal.{Refusal}
 use Rattle.layout.specs.declared.refusal.Refusal.TheVariants.{NoWay}
 use Rattle.walks.specs.Net.{net, junctions}
 use Rattle.walks.specs.Walk.{Leads, Best}
-use Rattle.search.specs.Answered.{Desk}
+use Rattle.search.specs.Desk.{Desk}
 use Rattle.search.specs.declared.found.Found.{Found}
 
 -- the list of so many at the head of the settled table is that long, and there are no fewer junctions

@@ -1,7 +1,9 @@
 pub mod Waiting
+pub mod Desk
 pub mod Queued
 pub mod Way
 pub mod Standing
+pub mod Frontier
 pub mod Apart
 pub mod Running
 pub mod Stepped

@@ -1,25 +1,17 @@
 -- What one step of a search leaves. Assumes nothing.
-use Rattle.std.specs.Prelude.{ℕ, ◌+◌, ◌<◌, List, take, Option}
+use Rattle.std.specs.Prelude.{ℕ, Bool, true, false, take, Option}
 use Rattle.measure.specs.Scale.{Scale}
 use Rattle.walks.specs.Net.{Net}
 use Rattle.walks.specs.Search.{Searched}
-use Rattle.walks.specs.Tables.{tabled}
+use Rattle.search.specs.Frontier.{state}
 use Rattle.search.specs.Running.{Running}
-use Rattle.search.specs.Standing.{TablesOf}
-use Rattle.search.specs.declared.stepping.Step.{Step}
-use Rattle.search.specs.declared.stepping.Step.TheVariants.{Settled, Arrived, Stuck}
+use Rattle.search.specs.declared.frontier.Frontier.{Frontier}
 
--- how many junctions are settled after a step from so many
-abbrev pub settled_after : ℕ → Step → ℕ
-settled_after count Settled = count + 1
-settled_after count Arrived = count + 1
-settled_after count Stuck = count
+-- the search is under way, with the junctions settled that stand in the table
+abbrev pub Underway : {T : Type 0} → Scale T → Net T → Option ℕ → ℕ → Frontier T → (ℕ → Option T) → Type 0
+Underway m g goal n f waits = Running m g f.start goal n f.totals.now f.came.now (take f.count f.settled.now) waits
 
--- one junction more is settled and the search goes on, or it has ended: at the goal, or since none waits
-abbrev pub Stepped : {T : Type 0} → Scale T → Net T → ℕ → Option ℕ → ℕ → ℕ → List T → List ℕ → List ℕ → (ℕ → Option T) → Step → Type 0
-Stepped m g start goal n count totals came settled waits Settled =
-    (count < n) × Running m g start goal n totals came (take (count + 1) settled) waits
-Stepped m g start goal n count totals came settled waits Arrived =
-    (count < n) × TablesOf m n start totals came × Searched m g start goal (tabled m start totals came (take (count + 1) settled))
-Stepped m g start goal n count totals came settled waits Stuck =
-    TablesOf m n start totals came × Searched m g start goal (tabled m start totals came (take count settled))
+-- the search goes on, or it has ended: at the goal, or since none waits
+abbrev pub Stepped : {T : Type 0} → Scale T → Net T → Option ℕ → ℕ → Frontier T → (ℕ → Option T) → Bool → Type 0
+Stepped m g goal n f waits true = Underway m g goal n f waits
+Stepped m g goal n f waits false = Searched m g f.start goal (state m f (take f.count f.settled.now))

@@ -5,6 +5,7 @@ ghost use Rattle.search.specs.Waiting.{apart};
 use crate::slot::Slot;
 
 // A priority queue over lent slots. The first `used` of them hold the numbers that wait, in no order.
+// kept: a count beside lent memory, as the customer asks.
 #[derive(Drop)]
 pub(crate) struct Queue<'a, M> {
     pub(crate) slots: &'a mut [Slot<M>],

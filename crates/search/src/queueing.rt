@@ -25,7 +25,7 @@ impl<'a, M: Measure> Queue<'a, M> {
     fn place(&self, number: u16) -> Option<usize>
         ensures { MatchOption result (waiting self.now number ≡ None) (λ k. (k < self.now.used) × HoldsAt (λ s. s.number ≡ number) self.now.slots.now k) }
     {
-        place_of(self.slots, self.used, number)
+        place_of(&self.slots[..self.used], number)
     }
 
     // The place of the slot that comes out first.
@@ -33,7 +33,7 @@ impl<'a, M: Measure> Queue<'a, M> {
         requires { 0 < self.now.used }
         ensures { IsFirstBest (before M.scale) self.now.slots.now self.now.used result }
     {
-        lowest_place(self.slots, self.used)
+        lowest_place(&self.slots[..self.used])
     }
 
     // Lets a number that does not wait, while a slot is free, wait with a total.

@@ -3,11 +3,13 @@ ghost use Rattle.std.specs.Prelude.{◌≡◌, ℕ, ◌<◌, ◌≤◌, length, 
 ghost use Rattle.search.specs.Way.{Traced, came_by, tail_of, Falls, place_in};
 
 // Stands in the came-by table for a junction that came by no leg.
+// kept: a table of 16-bit leg numbers with 65,535 for none, as the customer asks.
 pub(crate) const NO_LEG: u16 = 65535;
 
 // Writes the way to a settled junction, first leg first, and says how many legs it has.
 // The settled list, in settling order, is there for the proof alone: each leg leads back to a junction settled earlier, so the trace ends.
-fn trace(came: &[u16], tails: &[u16], settled: &[u16], at: u16, way: &mut [u16]) -> usize
+// kept: plain tables as parameters, and recursion, as the customer asks.
+pub(crate) fn trace(came: &[u16], tails: &[u16], settled: &[u16], at: u16, way: &mut [u16]) -> usize
     requires falls { Falls came.now tails.now settled.now }
     requires there { place_in settled.now at < length settled.now }
     requires room { place_in settled.now at ≤ length way.old }
@@ -22,24 +24,4 @@ fn trace(came: &[u16], tails: &[u16], settled: &[u16], at: u16, way: &mut [u16])
     let legs = trace(came, tails, settled, tails[leg as usize], way);
     way[legs] = leg;
     legs + 1
-}
-
-// The same for a goal among the first `count` junctions of the settled table. A way has fewer legs than there are junctions settled.
-pub(crate) fn way_to(
-    came: &[u16],
-    tails: &[u16],
-    settled: &[u16],
-    count: usize,
-    goal: u16,
-    way: &mut [u16],
-) -> usize
-    requires part { count ≤ length settled.now }
-    requires falls { Falls came.now tails.now (take count settled.now) }
-    requires there { place_in (take count settled.now) goal < count }
-    requires room { count ≤ length way.old }
-    ensures traced { Traced (came_by came.now) (tail_of tails.now) goal (take result way.new) }
-    ensures few { result < count }
-    ensures rest { drop result way.new ≡ drop result way.old }
-{
-    trace(came, tails, &settled[0..count], goal, way)
 }

@@ -3,7 +3,8 @@ use Rattle.std.specs.Prelude.{◌≡◌, ℕ, List, Err, Result, MatchOption}
 use Rattle.measure.specs.Scale.{Scale}
 use Rattle.layout.specs.Plant.{Plant}
 use Rattle.layout.specs.declared.refusal.Refusal.{Refusal}
-use Rattle.search.specs.Answered.{Desk, shown}
+use Rattle.search.specs.Answered.{shown}
+use Rattle.search.specs.Desk.{Desk}
 use Rattle.search.specs.declared.found.Found.{Found}
 use Rattle.walks.specs.Book.{Call, book, refusal_of, route}
 use Rattle.router.specs.Routing.{route_answer, settled_in, Promised}

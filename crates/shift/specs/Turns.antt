@@ -4,6 +4,7 @@ use Rattle.measure.specs.Scale.{Scale}
 use Rattle.layers.specs.declared.sheet.Sheet.{Sheet}
 use Rattle.layout.specs.Plant.{Plant}
 use Rattle.layout.specs.declared.refusal.Refusal.{Refusal}
+use Rattle.search.specs.Desk.{Desk}
 use Rattle.search.specs.declared.found.Found.{Found as FoundWay}
 use Rattle.halls.specs.declared.force.HallMarks.{HallMarks}
 use Rattle.order_text.specs.declared.order.Order.{Order}
@@ -16,6 +17,16 @@ use Rattle.shift.specs.declared.turn.Places.{Places}
 use Rattle.shift.specs.declared.turn.Reply.{Reply}
 use Rattle.shift.specs.declared.turn.Reply.TheVariants.{Lapsed, Marked, Found, Refused}
 use Rattle.shift.specs.declared.turn.Turn.{Turn}
+
+-- how many places there are of each table
+abbrev pub places_of : {T : Type 0} → Desk T → List ℕ → Places
+places_of d way = record {
+  totals = length d.totals;
+  came = length d.came;
+  waiting = length d.waiting;
+  settled = length d.settled;
+  way = length way;
+}
 
 -- the places that an order is lent of tables with so many
 abbrev pub lent : Places → Places → Places

@@ -1,7 +1,7 @@
 // The promise to the crews, whole: over every list of orders.
-ghost use Rattle.std.specs.Prelude.{length};
+ghost use Rattle.search.specs.Desk.{held, SameTables};
 ghost use Rattle.shift.specs.Kept.{KeptAfter};
-ghost use Rattle.shift.specs.Turns.{calls_of, AnswersShift};
+ghost use Rattle.shift.specs.Turns.{places_of, calls_of, AnswersShift};
 
 use crate::turn::Turn;
 use crate::working::work;
@@ -9,7 +9,7 @@ use layout::asking::Layout;
 use layout::refusal::Refusal;
 use measure::Measure;
 use router::router::Router;
-use search::{Found, Slot};
+use search::{Found, Tables};
 
 // Commissions a layout, carries out any list of orders, each with the tables that it is lent, and then routes: the replies are those of the crew's book, and the route keeps its promise.
 pub fn promise_kept_after<L: Layout + Drop, M: Measure>(
@@ -17,18 +17,16 @@ pub fn promise_kept_after<L: Layout + Drop, M: Measure>(
     turns: &mut [Turn<M>],
     start: u32,
     goal: u32,
-    totals: &mut [M],
-    came: &mut [u16],
-    waiting: &mut [Slot<M>],
-    settled: &mut [u16],
+    tables: &mut Tables<M>,
     way: &mut [u16],
 ) -> Result<Found<M>, Refusal>
-    ensures answers { AnswersShift M.scale (L.Layout.meaning layout) (record { totals = length totals.old; came = length came.old; waiting = length waiting.old; settled = length settled.old; way = length way.old }) turns.old turns.new }
-    ensures promise { KeptAfter M.scale (L.Layout.meaning layout) (calls_of (record { totals = length totals.old; came = length came.old; waiting = length waiting.old; settled = length settled.old; way = length way.old }) turns.old) start goal (record { totals = length totals.old; came = length came.old; waiting = length waiting.old; settled = length settled.old; way = length way.old }) (record { totals = totals.new; came = came.new; waiting = waiting.new; settled = settled.new }) way.new result }
+    ensures answers { AnswersShift M.scale (L.Layout.meaning layout) (places_of (held tables.old) way.old) turns.old turns.new }
+    ensures promise { KeptAfter M.scale (L.Layout.meaning layout) (calls_of (places_of (held tables.old) way.old) turns.old) start goal (places_of (held tables.old) way.old) (held tables.new) way.new result }
+    ensures lent { SameTables tables.old tables.new }
 {
     let mut router = Router::commission(layout);
-    work(&mut router, turns, totals, came, waiting, settled, way);
-    let found = router.route(start, goal, totals, came, waiting, settled, way);
+    work(&mut router, turns, tables, way);
+    let found = router.route(start, goal, tables, way);
     drop(router);
     found
 }

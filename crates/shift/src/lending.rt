@@ -1,132 +1,138 @@
 // Orders are carried out with the tables that they are lent.
-ghost use Rattle.std.specs.Prelude.{◌≡◌, ℕ, min, List, length};
-ghost use Rattle.router.specs.Ordered.{lapsed_answer, marked_answer};
+ghost use Rattle.std.specs.Prelude.{◌≡◌, ℕ, List, length, MatchResult};
+ghost use Rattle.router.specs.Ordered.{marked_answer};
 ghost use Rattle.router.specs.Routing.{route_answer};
 ghost use Rattle.router.specs.Worked.{GoesOn};
+ghost use Rattle.search.specs.Desk.{held, SameTables};
 ghost use Rattle.walks.specs.Book.{renew, route};
-ghost use Rattle.shift.specs.Turns.{lent, call_of, Says, WholeWay, AnswersCall};
+ghost use Rattle.shift.specs.declared.turn.Reply.TheVariants as reply;
+ghost use Rattle.shift.specs.Turns.{places_of, lent, call_of, WholeWay, AnswersCall};
 
-use crate::turn::{Places, Reply};
+use crate::turn::{Places, Reply, Turn};
 use layout::asking::Layout;
 use layout::refusal::Refusal;
 use measure::Measure;
 use order_text::Order;
 use router::router::Router;
-use search::{Found, Slot};
+use search::{Found, Slot, Tables};
 
-// The reply to an order on the day sheet.
-fn lapsed<M: Measure>(res: Result<u32, Refusal>) -> Reply<M>
-    ensures { Says result (lapsed_answer res) }
-{
-    match res {
-        Ok(halls) => Reply::Lapsed(halls),
-        Err(refusal) => Reply::Refused(refusal),
+impl Places {
+    // The places that an order which wants so many is lent of these tables.
+    fn lent<M>(self, tables: &Tables<M>, way: &[u16]) -> Places
+        ensures { result ≡ lent self (places_of (held tables.now) way.now) }
+    {
+        Places {
+            totals: self.totals.min(tables.totals.len()),
+            came: self.came.min(tables.came.len()),
+            waiting: self.waiting.min(tables.waiting.len()),
+            settled: self.settled.min(tables.settled.len()),
+            way: self.way.min(way.len()),
+        }
     }
 }
 
-// The reply to renewing.
-fn marked<M: Measure>(res: Result<u32, Refusal>) -> Reply<M>
-    ensures { Says result (marked_answer res) }
-{
-    match res {
-        Ok(legs) => Reply::Marked(legs),
-        Err(refusal) => Reply::Refused(refusal),
-    }
-}
-
-// The reply to a route.
-fn found<M: Measure>(res: Result<Found<M>, Refusal>) -> Reply<M>
-    ensures { (way : List ℕ) → WholeWay res way → Says result (route_answer res way) }
-{
-    match res {
-        Ok(found) => Reply::Found(found),
-        Err(refusal) => Reply::Refused(refusal),
-    }
-}
-
-// Renews a hall with as many places of each table as the order is lent.
-fn renew_lent<L: Layout, M: Measure>(
+// Renews a hall with these tables.
+// kept: four slices at one lifetime, since the borrow checker does not cover a call with a `Tables` of reborrowed parts.
+fn renew_in<'t, L: Layout, M: Measure>(
     router: &mut Router<L, M>,
     hall: u32,
-    places: Places,
-    totals: &mut [M],
-    came: &mut [u16],
-    waiting: &mut [Slot<M>],
-    settled: &mut [u16],
+    totals: &'t mut [M],
+    came: &'t mut [u16],
+    waiting: &'t mut [Slot<M>],
+    settled: &'t mut [u16],
 ) -> Result<u32, Refusal>
     ensures below { router.new.sheet.below ≡ router.old.sheet.below }
-    ensures book { GoesOn M.scale (L.Layout.meaning router.old.sheet.below) (renew hall (min places.totals (length totals.old)) (min places.came (length came.old)) (min places.waiting (length waiting.old)) (min places.settled (length settled.old))) (marked_answer result) router.old.sheet.sheet router.old.halls router.new.sheet.sheet router.new.halls }
+    ensures book { GoesOn M.scale (L.Layout.meaning router.old.sheet.below) (renew hall (length totals.old) (length came.old) (length waiting.old) (length settled.old)) (marked_answer result) router.old.sheet.sheet router.old.halls router.new.sheet.sheet router.new.halls }
 {
-    let t = places.totals.min(totals.len());
-    let c = places.came.min(came.len());
-    let w = places.waiting.min(waiting.len());
-    let s = places.settled.min(settled.len());
-    router.renew(
-        hall,
-        &mut totals[0..t],
-        &mut came[0..c],
-        &mut waiting[0..w],
-        &mut settled[0..s],
-    )
+    let mut tables = Tables {
+        totals,
+        came,
+        waiting,
+        settled,
+    };
+    router.renew(hall, &mut tables)
 }
 
-// Routes with as many places of each table as the order is lent.
-fn route_lent<L: Layout, M: Measure>(
+// Routes with these tables.
+// kept: the same.
+fn route_in<'t, L: Layout, M: Measure>(
     router: &Router<L, M>,
     start: u32,
     goal: u32,
-    places: Places,
-    totals: &mut [M],
-    came: &mut [u16],
-    waiting: &mut [Slot<M>],
-    settled: &mut [u16],
+    totals: &'t mut [M],
+    came: &'t mut [u16],
+    waiting: &'t mut [Slot<M>],
+    settled: &'t mut [u16],
     way: &mut [u16],
 ) -> Result<Found<M>, Refusal>
-    ensures { (w : List ℕ) × WholeWay result w × GoesOn M.scale (L.Layout.meaning router.now.sheet.below) (route start goal (min places.totals (length totals.old)) (min places.came (length came.old)) (min places.waiting (length waiting.old)) (min places.settled (length settled.old)) (min places.way (length way.old))) (route_answer result w) router.now.sheet.sheet router.now.halls router.now.sheet.sheet router.now.halls }
+    ensures { (w : List ℕ) × WholeWay result w × GoesOn M.scale (L.Layout.meaning router.now.sheet.below) (route start goal (length totals.old) (length came.old) (length waiting.old) (length settled.old) (length way.old)) (route_answer result w) router.now.sheet.sheet router.now.halls router.now.sheet.sheet router.now.halls }
 {
-    let t = places.totals.min(totals.len());
-    let c = places.came.min(came.len());
-    let w = places.waiting.min(waiting.len());
-    let s = places.settled.min(settled.len());
-    let y = places.way.min(way.len());
-    router.route(
-        start,
-        goal,
-        &mut totals[0..t],
-        &mut came[0..c],
-        &mut waiting[0..w],
-        &mut settled[0..s],
-        &mut way[0..y],
-    )
+    let mut tables = Tables {
+        totals,
+        came,
+        waiting,
+        settled,
+    };
+    router.route(start, goal, &mut tables, way)
 }
 
-// Carries out an order with the tables that it is lent.
-pub(crate) fn carry_out<L: Layout, M: Measure>(
+// Carries out the order of a turn with the tables that it is lent; the answer is the reply, or why it was refused.
+fn try_turn<L: Layout, M: Measure>(
     router: &mut Router<L, M>,
-    order: Order,
-    places: Places,
-    totals: &mut [M],
-    came: &mut [u16],
-    waiting: &mut [Slot<M>],
-    settled: &mut [u16],
+    turn: &Turn<M>,
+    tables: &mut Tables<M>,
     way: &mut [u16],
-) -> Reply<M>
+) -> Result<Reply<M>, Refusal>
     ensures below { router.new.sheet.below ≡ router.old.sheet.below }
-    ensures book { AnswersCall M.scale (L.Layout.meaning router.old.sheet.below) (call_of order (lent places (record { totals = length totals.old; came = length came.old; waiting = length waiting.old; settled = length settled.old; way = length way.old }))) router.old.sheet.sheet router.old.halls router.new.sheet.sheet router.new.halls result }
+    ensures book { MatchResult result (AnswersCall M.scale (L.Layout.meaning router.old.sheet.below) (call_of turn.now.order (lent turn.now.places (places_of (held tables.old) way.old))) router.old.sheet.sheet router.old.halls router.new.sheet.sheet router.new.halls) (λ why. AnswersCall M.scale (L.Layout.meaning router.old.sheet.below) (call_of turn.now.order (lent turn.now.places (places_of (held tables.old) way.old))) router.old.sheet.sheet router.old.halls router.new.sheet.sheet router.new.halls (reply.Refused why)) }
+    ensures places { places_of (held tables.new) way.new ≡ places_of (held tables.old) way.old }
+    ensures lent { SameTables tables.old tables.new }
 {
-    match order {
-        Order::Shut { leg } => lapsed(router.shut(leg)),
-        Order::Open { leg } => lapsed(router.open(leg)),
+    let n = turn.places.lent(tables, way);
+    match turn.order {
+        Order::Shut { leg } => Ok(Reply::Lapsed(router.shut(leg)?)),
+        Order::Open { leg } => Ok(Reply::Lapsed(router.open(leg)?)),
         Order::Set {
             leg,
             class,
             clearance,
-        } => lapsed(router.set(leg, class, clearance)),
-        Order::Renew { hall } => marked(renew_lent(
-            router, hall, places, totals, came, waiting, settled,
-        )),
-        Order::Route { start, goal } => found(route_lent(
-            router, start, goal, places, totals, came, waiting, settled, way,
-        )),
+        } => Ok(Reply::Lapsed(router.set(leg, class, clearance)?)),
+        Order::Renew { hall } => Ok(Reply::Marked(renew_in(
+            router,
+            hall,
+            &mut tables.totals[..n.totals],
+            &mut tables.came[..n.came],
+            &mut tables.waiting[..n.waiting],
+            &mut tables.settled[..n.settled],
+        )?)),
+        Order::Route { start, goal } => Ok(Reply::Found(route_in(
+            router,
+            start,
+            goal,
+            &mut tables.totals[..n.totals],
+            &mut tables.came[..n.came],
+            &mut tables.waiting[..n.waiting],
+            &mut tables.settled[..n.settled],
+            &mut way[..n.way],
+        )?)),
+    }
+}
+
+// Carries out the order of a turn with the tables that it is lent.
+pub(crate) fn carry_out<L: Layout, M: Measure>(
+    router: &mut Router<L, M>,
+    turn: &Turn<M>,
+    tables: &mut Tables<M>,
+    way: &mut [u16],
+) -> Reply<M>
+    ensures below { router.new.sheet.below ≡ router.old.sheet.below }
+    ensures book { AnswersCall M.scale (L.Layout.meaning router.old.sheet.below) (call_of turn.now.order (lent turn.now.places (places_of (held tables.old) way.old))) router.old.sheet.sheet router.old.halls router.new.sheet.sheet router.new.halls result }
+    ensures places { places_of (held tables.new) way.new ≡ places_of (held tables.old) way.old }
+    ensures lent { SameTables tables.old tables.new }
+{
+    // kept: `unwrap_or_else(Reply::Refused)` gets no generated proof
+    match try_turn(router, turn, tables, way) {
+        Ok(said) => said,
+        Err(refusal) => Reply::Refused(refusal),
     }
 }

@@ -1,28 +1,42 @@
 -- Junctions and legs of a ring. Assumes nothing.
-use Rattle.std.proofs.Common.{◌≡◌, ℕ, ◌+◌, ◌-◌, ◌<◌, ◌≤◌, cond, map, Some, None, ap, ◌∙◌, ⊎_elim, arith}
+use Rattle.std.proofs.Common.{◌≡◌, ℕ, ◌+◌, ◌-◌, ◌<◌, Bool, true, false, leb, ltb, cond, map, List, Some, sym, refl, ap, ◌∙◌, ⊎_elim, arith}
+use Rattle.std.specs.Bool.{then_some}
+use Rattle.std.specs.List.{range_with_len, slice_get}
+use Rattle.std.proofs.lemmas.Bool.{cases_lt, lt-ltb, le-ltb, leb-true, leb-false}
+use Rattle.std.proofs.lemmas.Option.{slice_get-map, none-some, same_Some}
 use Rattle.std.specs.Option.{option_map}
-use Rattle.std.specs.List.{slice_get}
-use Rattle.std.proofs.lemmas.Bool.{cases_lt, lt-ltb, le-ltb}
-use Rattle.layout.specs.Plant.{Leg}
-use Rattle.layout.proofs.Listed.{nth_map}
+use Rattle.layout.specs.Plant.{Leg, Next}
 use Rattle.sorter.specs.Ring.{after, ring_leg, ring}
 use Rattle.sorter.specs.Limited.{nth_counted, nth_uncounted}
 use Rattle.sorter.specs.declared.ring.SorterLoop.{SorterLoop}
 
--- an end of a leg, or that there is none
+-- what a list made from a function of the place has at i
+pub counted_at : {X : Type 0} (f : ℕ → X) (n i : ℕ) → slice_get (map f (range_with_len 0 n)) i ≡ then_some (ltb i n) (f i)
+counted_at f n i =
+    ⊎_elim
+    (λ lt. nth_counted f n i lt ∙ sym (ap (λ b. then_some b (f i)) (lt-ltb i n lt)))
+    (λ le. nth_uncounted f n i le ∙ sym (ap (λ b. then_some b (f i)) (le-ltb i n le)))
+    (cases_lt i n)
+
+-- an end of a leg
 module _ (l : SorterLoop) (end : Leg → ℕ) (i : ℕ) where
   pub end_at : i < l.junctions → slice_get (map end (ring l).legs) i ≡ Some (end (ring_leg l i))
-  end_at lt = nth_map end (ring l).legs i ∙ ap (option_map end) (nth_counted (ring_leg l) l.junctions i lt)
-
-  end_past : l.junctions ≤ i → slice_get (map end (ring l).legs) i ≡ None
-  end_past le = nth_map end (ring l).legs i ∙ ap (option_map end) (nth_uncounted (ring_leg l) l.junctions i le)
+  end_at lt = slice_get-map end (ring l).legs i ∙ ap (option_map end) (nth_counted (ring_leg l) l.junctions i lt)
 
   pub from_end : (j : ℕ) → slice_get (map end (ring l).legs) i ≡ Some j → (i < l.junctions) × (end (ring_leg l i) ≡ j)
   from_end j e =
       ⊎_elim
-      (λ lt. let q = end_at lt in let same : end (ring_leg l i) ≡ j = cc in (lt, same))
-      (λ ge. let q = end_past ge in let z : ◌≡◌ {A = ℕ} 0 1 = cc in absurd (let w : ⊥ = omega arith in w))
+      (λ lt. (lt, same_Some _ _ (sym (end_at lt) ∙ e)))
+      (λ ge. absurd (none-some j (sym (slice_get-map end (ring l).legs i ∙ ap (option_map end) (nth_uncounted (ring_leg l) l.junctions i ge)) ∙ e)))
       (cases_lt i l.junctions)
+
+-- the next place of a number that stands at k alone
+pub next_alone : (ks : List ℕ) (n from k : ℕ) → slice_get ks k ≡ Some n → ((i : ℕ) → slice_get ks i ≡ Some n → i ≡ k) → Next ks n from (then_some (leb from k) k)
+next_alone ks n from k there alone = by (leb from k) refl
+  where
+    by : (b : Bool) → leb from k ≡ b → Next ks n from (then_some b k)
+    by true e = (leb-true from k e, there, λ i low before f. let same = alone i f in omega arith)
+    by false e = λ i low f. let same = alone i f in let late = leb-false from k e in omega arith
 
 pub after_next : (n i : ℕ) → i + 1 < n → after n i ≡ i + 1
 after_next n i lt = ap (λ b. cond b (i + 1) 0) (lt-ltb (i + 1) n lt)

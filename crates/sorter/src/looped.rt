@@ -21,7 +21,7 @@ impl SorterLoop {
     ) -> Result<SorterLoop, Refusal>
         ensures { elim result [ Ok l ↦ (loop_due junctions metres class clearance ≡ None) × (l.junctions ≡ junctions) × (l.metres ≡ metres) × (l.class ≡ class) × (l.clearance ≡ clearance) | Err e ↦ loop_due junctions metres class clearance ≡ Some e ] }
     {
-        if junctions < 2 || junctions > MOST_JUNCTIONS {
+        if !(2..=MOST_JUNCTIONS).contains(&junctions) {
             return Err(Refusal::OutOfRange(1));
         }
         if !metres_fit(metres) {
@@ -71,10 +71,7 @@ impl SorterLoop {
     fn belt(&self, leg: u32) -> Option<Belt>
         ensures { option_map leg_of result ≡ slice_get (ring self.now).legs leg }
     {
-        if leg >= self.junctions {
-            return None;
-        }
-        Some(Belt {
+        (leg < self.junctions).then(|| Belt {
             tail: leg,
             head: self.next(leg),
             metres: self.metres,
@@ -86,13 +83,14 @@ impl SorterLoop {
 }
 
 // A sorter loop as a layout; every answer is computed.
+// kept: a question for each figure, as was asked for.
 impl Layout for SorterLoop {
     ghost meaning = { ring };
 
     ghost sound = { ring_sound };
 
     fn halls(&self) -> u32 {
-        (self.junctions + 7) / 8
+        self.junctions.div_ceil(8)
     }
 
     fn junctions(&self) -> u32 {
@@ -104,68 +102,39 @@ impl Layout for SorterLoop {
     }
 
     fn hall_of(&self, junction: u32) -> Option<u32> {
-        if junction < self.junctions {
-            Some(junction / 8)
-        } else {
-            None
-        }
+        (junction < self.junctions).then_some(junction / 8)
     }
 
     fn tail(&self, leg: u32) -> Option<u32> {
-        match self.belt(leg) {
-            Some(belt) => Some(belt.tail),
-            None => None,
-        }
+        self.belt(leg).map(|belt| belt.tail)
     }
 
     fn head(&self, leg: u32) -> Option<u32> {
-        match self.belt(leg) {
-            Some(belt) => Some(belt.head),
-            None => None,
-        }
+        self.belt(leg).map(|belt| belt.head)
     }
 
     fn metres(&self, leg: u32) -> Option<u32> {
-        match self.belt(leg) {
-            Some(belt) => Some(belt.metres),
-            None => None,
-        }
+        self.belt(leg).map(|belt| belt.metres)
     }
 
     fn class(&self, leg: u32) -> Option<u32> {
-        match self.belt(leg) {
-            Some(belt) => Some(belt.class),
-            None => None,
-        }
+        self.belt(leg).map(|belt| belt.class)
     }
 
     fn clearance(&self, leg: u32) -> Option<u32> {
-        match self.belt(leg) {
-            Some(belt) => Some(belt.clearance),
-            None => None,
-        }
+        self.belt(leg).map(|belt| belt.clearance)
     }
 
     fn turn(&self, leg: u32) -> Option<u32> {
-        match self.belt(leg) {
-            Some(belt) => Some(belt.turn),
-            None => None,
-        }
+        self.belt(leg).map(|belt| belt.turn)
     }
 
     fn is_open(&self, leg: u32) -> Option<bool> {
-        match self.belt(leg) {
-            Some(_) => Some(true),
-            None => None,
-        }
+        self.belt(leg).map(|_| true)
     }
 
     fn leaving(&self, junction: u32, from: u32) -> Option<u32> {
-        if junction < self.junctions && from <= junction {
-            Some(junction)
-        } else {
-            None
-        }
+        (junction < self.junctions && from <= junction).then_some(junction)
     }
 
     fn reaching(&self, junction: u32, from: u32) -> Option<u32> {
@@ -173,6 +142,6 @@ impl Layout for SorterLoop {
             return None;
         }
         let leg = self.before(junction);
-        if from <= leg { Some(leg) } else { None }
+        (from <= leg).then_some(leg)
     }
 }

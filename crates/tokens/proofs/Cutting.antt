@@ -1,8 +1,27 @@
 -- A list is cut at a byte in at most one way.
-use Rattle.std.proofs.Common.{◌≡◌, ℕ, zero, suc, ◌+◌, ◌<◌, ◌≤◌, min, ◌⊎◌, List, [], ◌∷◌, ◌++◌, length, take, drop, sym, refl, ap, ◌∙◌, subst, inl, inr, ⊎_elim, arith}
+use Rattle.std.proofs.Common.{◌≡◌, ◌≢◌, ℕ, zero, suc, ◌+◌, ◌<◌, ◌≤◌, min, ◌⊎◌, List, [], ◌∷◌, ◌++◌, length, take, drop, Some, None, Option, sym, refl, ap, ◌∙◌, subst, inl, inr, ⊎_elim, arith, MatchOption}
+use Rattle.std.specs.List.{AllByRecursion, AllWithin, HoldsAt}
+use Rattle.std.proofs.ByRecursion.{All-from_get_or}
 use Rattle.std.proofs.lemmas.List.{take-append-drop, drop_more, take_all, length-take, length-take-le, take-take, get_or-take, length-append}
 use Rattle.std.proofs.lemmas.Bool.{cases_eq, cases_lt}
 use Rattle.tokens.specs.Cuts.{Lacks, FirstAt, Cut, FirstLine, Endless}
+
+-- what holds at each of the first n places holds of the first n bytes
+all_before : (P : ℕ → Type 0) (bytes : List ℕ) (n : ℕ) → n ≤ length bytes → AllWithin P bytes 0 n → AllByRecursion P (take n bytes)
+all_before P bytes n fits h =
+    let long = length-take-le n bytes fits in
+    All-from_get_or P (take n bytes) 0 (λ i inside.
+    let before : i < n = omega arith in
+    subst P (sym (get_or-take n bytes i 0 before)) (h i 0 (omega arith) before))
+
+-- a search for the byte, one place after the other, finds where it first stands
+pub first_found :
+    (byte : ℕ) (bytes : List ℕ) (r : Option ℕ)
+    → MatchOption r (AllWithin (λ b. b ≢ byte) bytes 0 (length bytes)) (λ i. (i < length bytes) × HoldsAt (λ b. b ≡ byte) bytes i × AllWithin (λ b. b ≢ byte) bytes 0 i)
+    → MatchOption r (Lacks byte bytes) (λ place. FirstAt byte bytes place)
+first_found byte bytes None lacks = All-from_get_or (λ b. b ≢ byte) bytes 0 (λ i inside. lacks i 0 (omega arith) inside)
+first_found byte bytes (Some i) (inside, here, before) =
+    record { within = inside; here = here 0; before = all_before (λ b. b ≢ byte) bytes i (omega arith) before }
 
 -- the place where the byte first stands cuts the list
 pub cut_at : (byte : ℕ) (bytes : List ℕ) (place : ℕ) → FirstAt byte bytes place → Cut byte bytes (take place bytes) (drop (place + 1) bytes)

@@ -9,12 +9,7 @@ const LONGEST_LINE: usize = 40;
 pub(crate) fn place_of(bytes: &[u8], wanted: u8) -> Option<usize>
     ensures { MatchOption result (Lacks wanted bytes.now) (λ place. FirstAt wanted bytes.now place) }
 {
-    for (place, byte) in bytes.iter().enumerate() {
-        if *byte == wanted {
-            return Some(place);
-        }
-    }
-    None
+    bytes.iter().position(|byte| *byte == wanted)
 }
 
 // The first line of `text`, without the byte 10 that ends it, and what comes after that byte.
@@ -23,8 +18,6 @@ pub fn next_line(text: &[u8]) -> Option<(&[u8], &[u8])>
     ensures { MatchOption result (Endless text.now) (λ cut. FirstLine text.now cut.0.now cut.1.now) }
 {
     let window = text.len().min(LONGEST_LINE + 1);
-    match place_of(&text[..window], b'\n') {
-        Some(end) => Some((&text[..end], &text[end + 1..])),
-        None => None,
-    }
+    let end = place_of(&text[..window], b'\n')?;
+    Some((&text[..end], &text[end + 1..]))
 }

@@ -9,6 +9,7 @@ mod values;
 
 pub use cut::next_line;
 pub use line::{Due, Line, Token};
+pub use values::{Values, split_key};
 
 #[cfg(test)]
 mod tests;

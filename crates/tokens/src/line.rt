@@ -14,7 +14,7 @@ pub enum Token<'a> {
 }
 
 // What a line has to give next.
-#[derive(Clone, Copy)]
+#[derive(Clone, Copy, PartialEq, Eq, Debug)]
 pub enum Due {
     Key,
     Value,
@@ -30,6 +30,7 @@ pub struct Line<'a> {
 }
 
 // The kinds of character that a value is read by.
+#[derive(Clone, Copy)]
 enum Class {
     Digit,
     Comma,
@@ -54,6 +55,7 @@ fn class_of(byte: u8) -> Class
 fn value_length(bytes: &[u8]) -> Option<usize>
     ensures { MatchOption result (Stray bytes.now) (λ n. PlainUpTo bytes.now n) }
 {
+    // kept: a byte's class says at once to go on, to stop or to refuse; after a `position` it would be asked for again
     for (place, byte) in bytes.iter().enumerate() {
         match class_of(*byte) {
             Class::Digit | Class::Letter => {}
@@ -79,10 +81,7 @@ impl<'a> Line<'a> {
     pub fn at_end(&self) -> bool
         ensures { Decides result (self.now.due ≡ Due.Nothing) }
     {
-        match self.due {
-            Due::Nothing => true,
-            _ => false,
-        }
+        self.due == Due::Nothing
     }
 
     // The key of a line whose key is due.

@@ -11,10 +11,7 @@ const MOST_DIGITS: usize = 5;
 fn digit(byte: u8) -> Option<u32>
     ensures { MatchOption result (digit_value byte < 10 → ⊥) (λ d. (d < 10) × (d ≡ digit_value byte)) }
 {
-    match byte {
-        b'0'..=b'9' => Some(u32::from(byte - b'0')),
-        _ => None,
-    }
+    char::from(byte).to_digit(10)
 }
 
 // The number that `digits` write after those of `start`.
@@ -22,6 +19,7 @@ fn read_on(start: u32, digits: &[u8]) -> Option<u32>
     requires { (start < 10) × (length digits.now ≤ 4) }
     ensures { MatchOption result (AllDigits 10 digits.now → ⊥) (λ n. AllDigits 10 digits.now × (n ≡ digits_value_after 10 start digits.now)) }
 {
+    // kept: in a `try_fold` the product has no proof that it fits, which rests on how many digits came before
     let mut n = start;
     for byte in digits {
         n = 10 * n + digit(*byte)?;
@@ -47,10 +45,7 @@ pub(crate) fn letter_of(value: &[u8]) -> Option<u8>
     ensures { MatchOption result ((c : ℕ) → OneLetter value.now c → ⊥) (λ c. OneLetter value.now c) }
 {
     match value {
-        [only] => match *only {
-            b'a'..=b'z' => Some(*only),
-            _ => None,
-        },
+        [only @ b'a'..=b'z'] => Some(*only),
         _ => None,
     }
 }

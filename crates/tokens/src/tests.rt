@@ -1,6 +1,7 @@
 // Lines and values at the edges of their forms.
 use crate::cut::next_line;
 use crate::line::{Line, Token};
+use crate::values::split_key;
 
 // How long the first line of `text` is, and what comes after it.
 fn line_sizes(text: &[u8]) -> Option<(usize, usize)> {
@@ -44,6 +45,19 @@ fn letter(line: &[u8]) -> Option<u8> {
     let mut line = Line::new(line);
     line.next_token()?;
     line.letter()
+}
+
+// How long the key of `line` is, and its one number.
+fn keyed_number(line: &[u8]) -> Option<(usize, u32)> {
+    let (key, values) = split_key(line)?;
+    let [n] = values.numbers::<1>()?;
+    Some((key.len(), n))
+}
+
+// How long the key of `line` is, and its letter.
+fn keyed_letter(line: &[u8]) -> Option<(usize, u8)> {
+    let (key, values) = split_key(line)?;
+    Some((key.len(), values.letter()?))
 }
 
 #[test]
@@ -99,4 +113,13 @@ fn letters(rt: HostRuntime) {
     assert_eq!(rt; letter(b"measure=t,"), None);
     assert_eq!(rt; letter(b"measure="), None);
     assert_eq!(rt; letter(b"measure=1"), None);
+}
+
+#[test]
+fn split_keys(rt: HostRuntime) {
+    assert_eq!(rt; keyed_number(b"halls=2"), Some((5, 2)));
+    assert_eq!(rt; keyed_number(b"halls=2,3"), None);
+    assert_eq!(rt; keyed_number(b"halls"), None);
+    assert_eq!(rt; keyed_letter(b"measure=t"), Some((7, b't')));
+    assert_eq!(rt; keyed_letter(b"measure=2"), None);
 }

@@ -4,7 +4,7 @@ use layout::belt::Belt;
 use layout::refusal::Refusal;
 use measure::{Headroom, Tenths, TimeTurns};
 use plan::draft::{Draft, Plan};
-use search::{Slot, explore, search};
+use search::{Slot, Tables, explore, search};
 use std::test::Fail;
 
 // What stands in a table of came-bys where there is none.
@@ -23,6 +23,7 @@ fn belt(tail: u32, head: u32, metres: u32, class: u32, clearance: u32, turn: u32
 }
 
 // Five junctions in two halls, with a quick way and a high way from 0 to 4.
+// kept: each crate of tests draws its own plant, to be read alone.
 fn two_halls() -> Result<Plan, Refusal> {
     let mut draft = Draft::begin(2)?;
     for hall in [0, 0, 0, 1, 1] {
@@ -70,16 +71,13 @@ fn by_time(rt: HostRuntime) -> Result<(), Fail> {
     }; 7];
     let mut settled = [9; 7];
     let mut way = [8; 7];
-    let found = search(
-        &plan,
-        0,
-        4,
-        &mut totals,
-        &mut came,
-        &mut waiting,
-        &mut settled,
-        &mut way,
-    )?;
+    let mut tables = Tables {
+        totals: &mut totals,
+        came: &mut came,
+        waiting: &mut waiting,
+        settled: &mut settled,
+    };
+    let found = search(&plan, 0, 4, &mut tables, &mut way)?;
     assert_eq!(rt;
         (found.total.tenths, found.settled, found.legs),
         (300, 5, 3)
@@ -106,16 +104,13 @@ fn by_clearance(rt: HostRuntime) -> Result<(), Fail> {
     }; 5];
     let mut settled = [9; 5];
     let mut way = [8; 5];
-    let found = search(
-        &plan,
-        0,
-        4,
-        &mut totals,
-        &mut came,
-        &mut waiting,
-        &mut settled,
-        &mut way,
-    )?;
+    let mut tables = Tables {
+        totals: &mut totals,
+        came: &mut came,
+        waiting: &mut waiting,
+        settled: &mut settled,
+    };
+    let found = search(&plan, 0, 4, &mut tables, &mut way)?;
     assert_eq!(rt;
         (found.total.centimetres, found.settled, found.legs),
         (70, 5, 3)
@@ -138,16 +133,13 @@ fn by_time_then_turns(rt: HostRuntime) -> Result<(), Fail> {
     }; 6];
     let mut settled = [9; 6];
     let mut way = [8; 6];
-    let found = search(
-        &plan,
-        0,
-        4,
-        &mut totals,
-        &mut came,
-        &mut waiting,
-        &mut settled,
-        &mut way,
-    )?;
+    let mut tables = Tables {
+        totals: &mut totals,
+        came: &mut came,
+        waiting: &mut waiting,
+        settled: &mut settled,
+    };
+    let found = search(&plan, 0, 4, &mut tables, &mut way)?;
     assert_eq!(rt;
         (found.total.time, found.total.turns, found.legs),
         (300, 0, 3)
@@ -168,46 +160,31 @@ fn a_tie_a_self_loop_and_no_way(rt: HostRuntime) -> Result<(), Fail> {
     }; 4];
     let mut settled = [9; 4];
     let mut way = [8; 4];
-    let here = search(
-        &plan,
-        0,
-        0,
-        &mut totals,
-        &mut came,
-        &mut waiting,
-        &mut settled,
-        &mut way,
-    )?;
+    let mut tables = Tables {
+        totals: &mut totals,
+        came: &mut came,
+        waiting: &mut waiting,
+        settled: &mut settled,
+    };
+    let here = search(&plan, 0, 0, &mut tables, &mut way)?;
     assert_eq!(rt; (here.total.tenths, here.settled, here.legs), (0, 1, 0));
-    let there = search(
-        &plan,
-        0,
-        2,
-        &mut totals,
-        &mut came,
-        &mut waiting,
-        &mut settled,
-        &mut way,
-    )?;
+    let there = search(&plan, 0, 2, &mut tables, &mut way)?;
     assert_eq!(rt;
         (there.total.tenths, there.settled, there.legs),
         (200, 3, 2)
     );
     assert_eq!(rt; way, [1, 3, 8, 8]);
-    let none = search(
-        &plan,
-        0,
-        3,
-        &mut totals,
-        &mut came,
-        &mut waiting,
-        &mut settled,
-        &mut way,
-    );
+    let none = search(&plan, 0, 3, &mut tables, &mut way);
     assert_eq!(rt; none.err(), Some(Refusal::NoWay(3)));
     assert_eq!(rt; way, [1, 3, 8, 8]);
     assert_eq!(rt; came, [NONE, 1, 3, NONE]);
-    let all = explore(&plan, 1, &mut totals, &mut came, &mut waiting, &mut settled)?;
+    let mut tables = Tables {
+        totals: &mut totals,
+        came: &mut came,
+        waiting: &mut waiting,
+        settled: &mut settled,
+    };
+    let all = explore(&plan, 1, &mut tables)?;
     assert_eq!(rt; (all, settled), (2, [1, 2, 2, 9]));
     Ok(())
 }
@@ -225,16 +202,13 @@ fn a_shut_leg(rt: HostRuntime) -> Result<(), Fail> {
     }; 5];
     let mut settled = [9; 5];
     let mut way = [8; 5];
-    let found = search(
-        &sheet,
-        0,
-        4,
-        &mut totals,
-        &mut came,
-        &mut waiting,
-        &mut settled,
-        &mut way,
-    )?;
+    let mut tables = Tables {
+        totals: &mut totals,
+        came: &mut came,
+        waiting: &mut waiting,
+        settled: &mut settled,
+    };
+    let found = search(&sheet, 0, 4, &mut tables, &mut way)?;
     assert_eq!(rt;
         (found.total.tenths, found.settled, found.legs),
         (400, 5, 3)
@@ -255,30 +229,24 @@ fn refused(rt: HostRuntime) -> Result<(), Fail> {
     }; 4];
     let mut settled = [9; 4];
     let mut way = [8; 3];
-    let no_goal = search(
-        &plan,
-        0,
-        4,
-        &mut totals,
-        &mut came,
-        &mut waiting,
-        &mut settled,
-        &mut way,
-    );
+    let mut tables = Tables {
+        totals: &mut totals,
+        came: &mut came,
+        waiting: &mut waiting,
+        settled: &mut settled,
+    };
+    let no_goal = search(&plan, 0, 4, &mut tables, &mut way);
     assert_eq!(rt; no_goal.err(), Some(Refusal::NoJunction(2)));
-    let short = search(
-        &plan,
-        0,
-        3,
-        &mut totals,
-        &mut came,
-        &mut waiting,
-        &mut settled,
-        &mut way,
-    );
+    let short = search(&plan, 0, 3, &mut tables, &mut way);
     assert_eq!(rt; short.err(), Some(Refusal::ShortTable(2)));
     assert_eq!(rt; (came, settled), ([7, 7, 7], [9, 9, 9, 9]));
-    let no_start = explore(&plan, 4, &mut totals, &mut came, &mut waiting, &mut settled);
+    let mut tables = Tables {
+        totals: &mut totals,
+        came: &mut came,
+        waiting: &mut waiting,
+        settled: &mut settled,
+    };
+    let no_start = explore(&plan, 4, &mut tables);
     assert_eq!(rt; no_start.err(), Some(Refusal::NoJunction(1)));
     Ok(())
 }

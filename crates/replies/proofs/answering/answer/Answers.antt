@@ -1,4 +1,4 @@
-use Rattle.std.proofs.Common.{◌≡◌, ℕ, ◌+◌, ◌-◌, ◌≤◌, List, length, take, drop, Some, None, sym, ap, ◌∙◌, subst}
+use Rattle.std.proofs.Common.{◌≡◌, ℕ, ◌+◌, ◌-◌, ◌≤◌, List, length, take, drop, None, sym, subst}
 use Rattle.std.proofs.lemmas.List.{take_rest}
 use Rattle.std.proofs.lemmas.Result.{IfOk-weaker, IfOk-at_ok}
 use Rattle.plan_text.specs.Reads.{Reads, most_bytes}
@@ -12,44 +12,18 @@ returns-in-Some g c =
     IfOk-weaker c.say.result _ _ (λ x wrote. said_refused c.args.text.now r c.in-Some.refusal _ _ c.read_plan-reading.ensures c.in-Some.is wrote) c.say.ensures
 
 -- the orders are short
-short : (text : List ℕ) (r : Reading) → Reads text r → r.refusal ≡ None → r.lines + length (take (length text - r.rest) (drop r.rest text)) ≤ most_bytes
-short text r reads e = subst (λ (l : List ℕ). r.lines + length l ≤ most_bytes) (sym (take_rest text r.rest)) (few_left text r reads e)
+short_rest : (text : List ℕ) (r : Reading) → Reads text r → r.refusal ≡ None → r.lines + length (take (length text - r.rest) (drop r.rest text)) ≤ most_bytes
+short_rest text r reads e = subst (λ (l : List ℕ). r.lines + length l ≤ most_bytes) (sym (take_rest text r.rest)) (few_left text r reads e)
 
-pub answer_by_time-requires : goal.answer_by_time-requires
-answer_by_time-requires g c = short c.args.text.now c.read_plan-reading.result c.read_plan-reading.ensures c.in_default.is
+pub invariant_of-orders : goal.invariant_of-orders
+invariant_of-orders g c = record { short = short_rest c.args.text.now c.read_plan-reading.result c.read_plan-reading.ensures c.in_default.is }
 
-pub returns-in-Time : goal.returns-in-Time
-returns-in-Time g c =
+pub returns : goal.returns
+returns g c =
     let r = c.read_plan-reading.result in
     let wrote = IfOk-at_ok _ c.in_ok-say.was c.say-2.ensures in
-    IfOk-weaker c.answer_by_time.result _ _
+    IfOk-weaker c.answer_by_kind.result _ _
     (λ x said.
     said_whole c.args.text.now r _ _ _ c.describe.result _ _ _
-    c.read_plan-reading.ensures c.in_default.is (c.in-Some-Some.is-0 ∙ ap (λ k. Some k) c.in-Time.is) c.in-Some-Some.is-1 c.finish-plan.ensures c.describe.ensures wrote said)
-    c.answer_by_time.ensures
-
-pub answer_by_clearance-requires : goal.answer_by_clearance-requires
-answer_by_clearance-requires g c = short c.args.text.now c.read_plan-reading.result c.read_plan-reading.ensures c.in_default.is
-
-pub returns-in-Clearance : goal.returns-in-Clearance
-returns-in-Clearance g c =
-    let r = c.read_plan-reading.result in
-    let wrote = IfOk-at_ok _ c.in_ok-say.was c.say-2.ensures in
-    IfOk-weaker c.answer_by_clearance.result _ _
-    (λ x said.
-    said_whole c.args.text.now r _ _ _ c.describe.result _ _ _
-    c.read_plan-reading.ensures c.in_default.is (c.in-Some-Some.is-0 ∙ ap (λ k. Some k) c.in-Clearance.is) c.in-Some-Some.is-1 c.finish-plan.ensures c.describe.ensures wrote said)
-    c.answer_by_clearance.ensures
-
-pub answer_by_turns-requires : goal.answer_by_turns-requires
-answer_by_turns-requires g c = short c.args.text.now c.read_plan-reading.result c.read_plan-reading.ensures c.in_default.is
-
-pub returns-in-TimeThenTurns : goal.returns-in-TimeThenTurns
-returns-in-TimeThenTurns g c =
-    let r = c.read_plan-reading.result in
-    let wrote = IfOk-at_ok _ c.in_ok-say.was c.say-2.ensures in
-    IfOk-weaker c.answer_by_turns.result _ _
-    (λ x said.
-    said_whole c.args.text.now r _ _ _ c.describe.result _ _ _
-    c.read_plan-reading.ensures c.in_default.is (c.in-Some-Some.is-0 ∙ ap (λ k. Some k) c.in-TimeThenTurns.is) c.in-Some-Some.is-1 c.finish-plan.ensures c.describe.ensures wrote said)
-    c.answer_by_turns.ensures
+    c.read_plan-reading.ensures c.in_default.is c.in-Some-Some.is-0 c.in-Some-Some.is-1 c.finish-plan.ensures c.describe.ensures wrote said)
+    c.answer_by_kind.ensures

@@ -6,10 +6,10 @@ use Rattle.search.proofs.Ranking.{slots_rank}
 use Rattle.search.proofs.places.lowest_place.Goals as goal
 use Rattle.search.proofs.places.lowest_place.Goals.{then-is_before, else-is_before}
 
-pub loop-i-preserved : goal.loop-i-preserved
-loop-i-preserved g c =
+pub loop-place-preserved : goal.loop-place-preserved
+loop-place-preserved g c =
     let xs = c.args.slots.now in
-    let i = c.loop-i.i in
+    let i = c.loop-place.place in
     let m = g.M.Measure.scale in
     let ranks = slots_rank g.met.M.Measure.lawful in
     let inside : i < length xs = omega arith in
@@ -17,13 +17,13 @@ loop-i-preserved g c =
       | then-is_before w ↦ (
         omega arith,
         subst (IsFirstBest (before m) xs (i + 1)) (sym w.best-is)
-            (IsFirstBest-takes ranks xs i c.loop-i.best _ _ c.loop-i.invariant.1 inside c.index-slots-i.is c.loop-i.invariant.2 (sym w.if-is_before.ensures)),
-        subst (λ b. c.if-is_before.lowest ≡ get_or xs b c.if-is_before.lowest) (sym w.best-is) (subst (λ s. s ≡ get_or xs i s) (sym w.lowest-is) c.index-slots-i.is),
+            (IsFirstBest-takes ranks xs i c.loop-place.best _ _ c.loop-place.invariant.1 inside c.index-slots-place.is c.loop-place.invariant.2 (sym w.if-is_before.ensures)),
+        subst (λ b. c.if-is_before.lowest ≡ get_or xs b c.if-is_before.lowest) (sym w.best-is) (subst (λ s. s ≡ get_or xs i s) (sym w.lowest-is) c.index-slots-place.is),
       )
       | else-is_before w ↦ (
         omega arith,
         subst (IsFirstBest (before m) xs (i + 1)) (sym w.best-is)
-            (IsFirstBest-keeps ranks xs i c.loop-i.best _ _ c.loop-i.invariant.1 inside c.index-slots-i.is c.loop-i.invariant.2 (sym w.if-is_before.ensures)),
-        subst (λ b. c.if-is_before.lowest ≡ get_or xs b c.if-is_before.lowest) (sym w.best-is) (subst (λ s. s ≡ get_or xs c.loop-i.best s) (sym w.lowest-is) c.loop-i.invariant.2),
+            (IsFirstBest-keeps ranks xs i c.loop-place.best _ _ c.loop-place.invariant.1 inside c.index-slots-place.is c.loop-place.invariant.2 (sym w.if-is_before.ensures)),
+        subst (λ b. c.if-is_before.lowest ≡ get_or xs b c.if-is_before.lowest) (sym w.best-is) (subst (λ s. s ≡ get_or xs c.loop-place.best s) (sym w.lowest-is) c.loop-place.invariant.2),
       )
     ]

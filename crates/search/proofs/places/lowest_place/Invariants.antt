@@ -3,5 +3,5 @@ use Rattle.std.specs.List.{IsFirstBest}
 use Rattle.search.specs.Waiting.{before}
 use Rattle.search.proofs.places.lowest_place.Given as goal
 
-abbrev pub invariant-loop-i : goal.invariant-loop-i
-invariant-loop-i g l = (1 ≤ l.i) × IsFirstBest (before g.M.Measure.scale) l.slots l.i l.best × (l.lowest ≡ get_or l.slots l.best l.lowest)
+abbrev pub invariant-loop-place : goal.invariant-loop-place
+invariant-loop-place g l = (1 ≤ l.place) × IsFirstBest (before g.M.Measure.scale) l.slots l.place l.best × (l.lowest ≡ get_or l.slots l.best l.lowest)

@@ -1,36 +1,39 @@
-use Rattle.std.proofs.Common.{◌≡◌, ◌<◌, ◌≤◌, length, refl, ap, ◌∙◌, subst, arith}
-use Rattle.layout.specs.Plant.{Plant}
-use Rattle.shift.specs.Turns.{lent, call_of, AnswersCall}
-use Rattle.shift.specs.declared.turn.Places.{Places}
-use Rattle.shift.proofs.Histories.{first_turn, next_turn, all_turns}
+use Rattle.std.proofs.Common.{◌+◌, ◌<◌, ◌≤◌, length, set, Some, refl, ◌∙◌, subst, arith, rules}
+use Rattle.search.specs.Desk.{held}
+use Rattle.shift.specs.Turns.{places_of, lent, call_of, AnswersCall}
+use Rattle.shift.specs.declared.turn.Turn.{Turn}
+use Rattle.shift.proofs.Histories.{SoFar, first_turn, next_turn, all_turns}
 use Rattle.shift.proofs.working.work.Goals as goal
 
-pub loop-i-init : goal.loop-i-init
-loop-i-init g c = (refl, first_turn c.requires)
+pub loop-turn-init : goal.loop-turn-init
+loop-turn-init g c = record { below = refl; so_far = first_turn c.requires; places = refl; lent = search rules }
 
-pub loop-i-preserved : goal.loop-i-preserved
-loop-i-preserved g c =
+pub loop-turn-preserved : goal.loop-turn-preserved
+loop-turn-preserved g c =
     let m = g.M.Measure.scale in
-    let below = c.loop-i.invariant.0 in
-    let sound = g.L.Layout.sound c.args.router.now.sheet.below in
-    let p = g.L.Layout.meaning c.args.router.now.sheet.below in
-    let there : Places = record { totals = length c.args.totals.now; came = length c.args.came.now; waiting = length c.args.waiting.now; settled = length c.args.settled.now; way = length c.args.way.now } in
-    let now-there : Places = record { totals = length c.loop-i.totals; came = length c.loop-i.came; waiting = length c.loop-i.waiting; settled = length c.loop-i.settled; way = length c.loop-i.way } in
-    let kept = c.loop-i.auto in
-    let same : now-there ≡ there = λ i. record { totals = kept.totals i; came = kept.came i; waiting = kept.waiting i; settled = kept.settled i; way = kept.way i } in
-    let turn = c.index-turns-i.result in
-    let old = c.loop-i.router in
-    let new = c.carry_out-reply.new.router in
-    let book = subst (λ (n : Places). AnswersCall m (g.L.Layout.meaning old.sheet.below) (call_of turn.order (lent turn.places n)) old.sheet.sheet old.halls new.sheet.sheet new.halls c.carry_out-reply.result) same c.carry_out-reply.ensures.book in
-    let on-plant = subst (λ (q : Plant). AnswersCall m q (call_of turn.order (lent turn.places there)) old.sheet.sheet old.halls new.sheet.sheet new.halls c.carry_out-reply.result) (ap g.L.Layout.meaning below) book in
-    let inside : c.loop-i.i < length c.args.turns.now = omega arith in
-    let inside' : c.loop-i.i < length c.loop-i.turns = omega arith in
-    let next = next_turn g.met.M.Measure.lawful p sound there c.loop-i.i c.args.turns.now c.loop-i.turns old.sheet.sheet new.sheet.sheet old.halls new.halls turn c.carry_out-reply.result inside inside' c.loop-i.invariant.1 c.index-turns-i.is on-plant in
-    (c.carry_out-reply.ensures.below ∙ below, next)
+    let before = c.loop-turn.invariant in
+    let first = c.args.router.now in
+    let p = g.L.Layout.meaning first.sheet.below in
+    let there = places_of (held c.args.tables.now) c.args.way.now in
+    let i = c.loop-turn.turn-index in
+    let turns = c.loop-turn.turns in
+    let turn = c.turn-item.result in
+    let old = c.loop-turn.router in
+    let new = c.carry_out.new.router in
+    let said = c.carry_out.result in
+    let inside : i < length c.args.turns.now = omega arith in
+    let inside' : i < length turns = omega arith in
+    let book : AnswersCall m p (call_of turn.order (lent turn.places there)) old.sheet.sheet old.halls new.sheet.sheet new.halls said = search rules in
+    record {
+      below = c.carry_out.ensures.below ∙ before.below;
+      so_far = subst (λ (t : Turn g.row.M.Denot). SoFar m p there (i + 1) c.args.turns.now (set turns i (record { order = t.order; places = t.places; reply = Some said })) new.sheet.sheet new.halls) c.turn-item.is
+          (next_turn g.met.M.Measure.lawful p (g.L.Layout.sound first.sheet.below) there i c.args.turns.now turns old.sheet.sheet new.sheet.sheet old.halls new.halls turn said inside inside' before.so_far c.turn-item.is book);
+      places = c.carry_out.ensures.places ∙ before.places;
+      lent = search rules;
+    }
 
-pub returns : goal.returns
-returns g c =
-    let long : length c.args.turns.now ≤ c.loop-i.i = omega arith in
-    let long' : length c.loop-i.turns ≤ c.loop-i.i = omega arith in
-    let all = all_turns long long' c.loop-i.invariant.1 in
-    record { below = c.loop-i.invariant.0; worked = all.0; answers = all.1 }
+pub returns-clause-worked : goal.returns-clause-worked
+returns-clause-worked g c = (all_turns (let w : length c.args.turns.now ≤ c.loop-turn.turn-index = omega arith in w) (let w : length c.loop-turn.turns ≤ c.loop-turn.turn-index = omega arith in w) c.loop-turn.invariant.so_far).0
+
+pub returns-clause-answers : goal.returns-clause-answers
+returns-clause-answers g c = (all_turns (let w : length c.args.turns.now ≤ c.loop-turn.turn-index = omega arith in w) (let w : length c.loop-turn.turns ≤ c.loop-turn.turn-index = omega arith in w) c.loop-turn.invariant.so_far).1

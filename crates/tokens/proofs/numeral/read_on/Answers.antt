@@ -1,5 +1,5 @@
 use Rattle.std.proofs.Common.{arith}
-use Rattle.tokens.proofs.Decimal.{digits_at, read_more, read_all}
+use Rattle.tokens.proofs.Decimal.{digits_at, read_more}
 use Rattle.tokens.proofs.numeral.read_on.Goals as goal
 
 pub returns-in_err-n : goal.returns-in_err-n
@@ -9,6 +9,3 @@ pub loop-byte-preserved : goal.loop-byte-preserved
 loop-byte-preserved c =
     let d = c.in_ok-n.ensures in
     read_more _ _ _ _ _ (omega arith) c.loop-byte.invariant d.0 d.1
-
-pub returns : goal.returns
-returns c = read_all _ _ _ _ (omega arith) c.loop-byte.invariant

@@ -1,6 +1,5 @@
-use Rattle.std.proofs.Common.{refl}
 use Rattle.layers.proofs.Turning.{turned_twice}
 use Rattle.layers.proofs.turned.Turned.over.Goals as goal
 
-pub returns : goal.returns
-returns g c = record { below = refl; twice = turned_twice (g.L.Layout.meaning c.args.below) }
+pub returns-clause-twice : goal.returns-clause-twice
+returns-clause-twice g c = turned_twice (g.L.Layout.meaning c.args.below)

@@ -1,25 +1,11 @@
-use Rattle.std.proofs.Common.{◌≡◌, length, sym, ◌∙◌, arith}
-use Rattle.std.proofs.lemmas.List.{length-map}
-use Rattle.layout.specs.Plant.{Leg, heads}
-use Rattle.layout.proofs.Listed.{nth_map}
-use Rattle.layout.proofs.Nexts.{missed_more, missed_all}
+use Rattle.std.proofs.Common.{rules, arith}
+use Rattle.std.proofs.lemmas.Iterator.{first_from_Range}
+use Rattle.layout.proofs.Nexts.{EndsAt, next_from_first}
 use Rattle.layout.proofs.asking.Layout.reaching.Goals as goal
-
-pub returns-then-names : goal.returns-then-names
-returns-then-names g c =
-    let p = g.Self.Layout.meaning c.args.self.now in
-    let asked = nth_map (λ (l : Leg). l.head) p.legs c.loop-leg.leg in
-    let found = c.names.ensures.found c.if-names.true in
-    (omega arith, asked ∙ sym c.head.ensures ∙ found, c.loop-leg.invariant)
-
-pub loop-leg-preserved : goal.loop-leg-preserved
-loop-leg-preserved g c =
-    let p = g.Self.Layout.meaning c.args.self.now in
-    let asked = nth_map (λ (l : Leg). l.head) p.legs c.loop-leg.leg in
-    missed_more _ _ _ _ c.loop-leg.invariant (λ e. c.names.ensures.other c.if-names.false (c.head.ensures ∙ sym asked ∙ e))
 
 pub returns : goal.returns
 returns g c =
-    let p = g.Self.Layout.meaning c.args.self.now in
-    let few : length (heads p) ≡ length p.legs = length-map p.legs (λ l. l.head) in
-    missed_all _ _ _ _ c.loop-leg.invariant (omega arith)
+    let legs = (g.Self.Layout.meaning c.args.self.now).legs in
+    let j = c.args.junction in
+    next_from_first (λ l. l.head) legs j c.args.from c.legs.result c.find.result (omega arith)
+    (first_from_Range _ _ _ c.find.result (EndsAt (λ l. l.head) legs j) (λ i. EndsAt (λ l. l.head) legs j i → ⊥) c.find.ensures.ran (λ x q called. search rules) (λ x q called. search rules))

@@ -1,32 +1,18 @@
-use Rattle.std.proofs.Common.{arith}
-use Rattle.layout.specs.Plant.{tails, heads}
-use Rattle.plan.specs.Drawn.{drawn}
-use Rattle.plan.proofs.Entry.{laid_kept, laid_drawn, ends_are}
+use Rattle.std.proofs.Common.{◌∙◌, arith}
+use Rattle.std.proofs.lemmas.List.{length-set}
+use Rattle.plan.proofs.Entry.{laid_sound, ends_laid}
 use Rattle.plan.proofs.drawing.Drawing.put_leg.Goals as goal
 
-pub push-requires : goal.push-requires
-push-requires c =
+pub invariant_of-self : goal.invariant_of-self
+invariant_of-self c =
     let d = c.args.self.now in
-    let k = c.requires.0 in
-    let few = k.few_points in
-    let there = c.requires.1.0.tail_exists in
-    ((tails (drawn d), k.leaves, ends_are d k (λ l. l.tail)), (omega arith, c.requires.1.1))
-
-pub push-requires-2 : goal.push-requires-2
-push-requires-2 c =
-    let d = c.args.self.now in
-    let k = c.requires.0 in
-    let few = k.few_points in
-    let there = c.requires.1.0.head_exists in
-    ((heads (drawn d), k.reaches, ends_are d k (λ l. l.head)), (omega arith, c.requires.1.1))
-
-pub returns : goal.returns
-returns c =
-    let d = c.args.self.now in
-    let k = c.requires.0 in
-    let out = c.push.ensures (tails (drawn d)) k.leaves (ends_are d k (λ l. l.tail)) in
-    let in_to = c.push-2.ensures (heads (drawn d)) k.reaches (ends_are d k (λ l. l.head)) in
+    let b = c.args.belt in
     record {
-      kept = laid_kept d k c.args.belt _ _ c.requires.1.0 c.requires.1.1 out in_to;
-      means = laid_drawn d k c.args.belt d.leaving d.reaching c.requires.1.1;
+      few_points = d.few_points;
+      few_belts = omega arith;
+      wide_places = d.wide_places;
+      wide_belts = length-set d.tables.belts d.count b ∙ d.wide_belts;
+      sound = laid_sound d b c.requires.0 c.requires.1;
+      leaves = ends_laid d (λ l. l.tail) b d.leaving c.push.new.self c.requires.1 d.leaves c.push.ensures;
+      reaches = ends_laid d (λ l. l.head) b d.reaching c.push-2.new.self c.requires.1 d.reaches c.push-2.ensures;
     }

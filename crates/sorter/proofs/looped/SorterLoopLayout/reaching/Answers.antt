@@ -1,5 +1,7 @@
-use Rattle.std.proofs.Common.{Some, ap, ◌∙◌, arith}
-use Rattle.sorter.proofs.Rings.{end_at, from_end, after_within}
+use Rattle.std.proofs.Common.{Some, sym, ap, ◌∙◌, subst, arith}
+use Rattle.layout.specs.Plant.{Next, heads}
+use Rattle.sorter.specs.Ring.{ring}
+use Rattle.sorter.proofs.Rings.{end_at, from_end, after_within, next_alone}
 use Rattle.sorter.proofs.looped.SorterLoopLayout.reaching.Goals as goal
 
 pub returns-then-junction-self : goal.returns-then-junction-self
@@ -10,19 +12,11 @@ returns-then-junction-self c = λ i low e.
     let same = there.1 in
     omega arith
 
-pub returns-then-from-leg : goal.returns-then-from-leg
-returns-then-from-leg c =
-    let l = c.args.self.now in (
-      omega arith,
-      end_at l (λ g. g.head) c.before-leg.result c.before-leg.ensures.within ∙ ap Some c.before-leg.ensures.leads,
-      λ i low high e.
-          let there = from_end l (λ g. g.head) i c.args.junction e in
-          let same = c.before-leg.ensures.alone i there.0 there.1 in omega arith,
-    )
-
-pub returns-else-from-leg : goal.returns-else-from-leg
-returns-else-from-leg c = λ i low e.
+pub returns : goal.returns
+returns c =
     let l = c.args.self.now in
-    let there = from_end l (λ g. g.head) i c.args.junction e in
-    let same = c.before-leg.ensures.alone i there.0 there.1 in
-    omega arith
+    let leg = c.before-leg.result in
+    subst (Next (heads (ring l)) c.args.junction c.args.from) (sym c.then_some.ensures)
+    (next_alone (heads (ring l)) c.args.junction c.args.from leg
+    (end_at l (λ g. g.head) leg c.before-leg.ensures.within ∙ ap Some c.before-leg.ensures.leads)
+    (λ i e. let there = from_end l (λ g. g.head) i c.args.junction e in c.before-leg.ensures.alone i there.0 there.1))

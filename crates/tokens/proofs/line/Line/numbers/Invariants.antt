@@ -2,5 +2,5 @@
 use Rattle.tokens.proofs.Reading.{Found}
 use Rattle.tokens.proofs.line.Line.numbers.Given as goal
 
-abbrev pub invariant-loop-place : goal.invariant-loop-place
-invariant-loop-place g l = Found g.row.K l.initial.self l.self l.found l.place
+abbrev pub invariant-loop-number : goal.invariant-loop-number
+invariant-loop-number g l = Found g.row.K l.initial.self l.self l.number-items l.number-index

@@ -1,6 +1,0 @@
-use Rattle.std.proofs.Common.{rules}
-use Rattle.layers.specs.Soundness.{length_changed}
-use Rattle.layers.proofs.daily.DaySheetLayout.legs.Goals as goal
-
-pub returns : goal.returns
-returns g c = search (rules, length_changed)

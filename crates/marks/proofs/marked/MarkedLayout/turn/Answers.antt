@@ -1,6 +1,0 @@
-use Rattle.std.proofs.Common.{rules}
-use Rattle.layers.proofs.Relegging.{figure_changed}
-use Rattle.marks.proofs.marked.MarkedLayout.turn.Goals as goal
-
-pub returns : goal.returns
-returns g c = search (rules, figure_changed)
