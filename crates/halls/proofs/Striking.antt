@@ -1,5 +1,5 @@
 -- Halls lapse one after the other. Assumes nothing.
-use Rattle.std.proofs.Common.{◌≡◌, ℕ, ◌+◌, ◌-◌, ◌≤◌, min, Bool, true, false, ◌&&◌, ◌||◌, eqb, ltb, sym, refl, ap, ◌∙◌, ⊎_elim, arith}
+use Rattle.std.proofs.Common.{◌≡◌, ℕ, zero, suc, ◌+◌, ◌-◌, ◌≤◌, min, Bool, true, false, not, ◌&&◌, ◌||◌, eqb, ltb, get_or, replicate, sym, refl, ap, ◌∙◌, ⊎_elim, arith}
 use Rattle.std.proofs.lemmas.Bool.{cases_lt}
 use Rattle.std.proofs.lemmas.Bool.Decides.{nat_tests}
 use Rattle.layout.specs.Limits.{most_halls}
@@ -15,6 +15,14 @@ use Rattle.halls.specs.declared.force.Strikes.TheVariants as order
 abbrev pub Below : ℕ → (ℕ → Bool) → ℕ → Bool
 Below i test h = ltb h i && test h
 
+none_out : (f : Bool) → f ≡ (f && not false)
+none_out true = refl
+none_out false = refl
+
+none_in : (a : Bool) → a ≡ (a || false)
+none_in true = refl
+none_in false = refl
+
 pub lapsed_first : (test : ℕ → Bool) (m : HallMarks) → Lapsed (Below 0 test) m m
 lapsed_first test m = record { force = λ h. grind (arith, nat_tests); marks = λ h e. grind (arith, nat_tests) }
 
@@ -22,12 +30,29 @@ lapsed_first test m = record { force = λ h. grind (arith, nat_tests); marks = �
 pub lapsed_same : (out other : ℕ → Bool) (old new : HallMarks) → ((h : ℕ) → out h ≡ other h) → Lapsed out old new → Lapsed other old new
 lapsed_same out other old new same l = record { force = λ h. grind (arith, l.force h, same h); marks = λ h e. grind (arith, l.marks h e, same h) }
 
+out_twice : (f o p : Bool) → ((f && not o) && not p) ≡ (f && not (o || p))
+out_twice true true p = refl
+out_twice true false p = refl
+out_twice false o p = refl
+
+in_twice : (a o p q : Bool) → ((a || (o && q)) || (p && q)) ≡ (a || ((o || p) && q))
+in_twice true o p q = refl
+in_twice false true true true = refl
+in_twice false true true false = refl
+in_twice false true false true = refl
+in_twice false true false false = refl
+in_twice false false p q = refl
+
 -- some lapse, and then others
 pub lapsed_then : (out more : ℕ → Bool) (old mid new : HallMarks) → Lapsed out old mid → Lapsed more mid new → Lapsed (λ h. out h || more h) old new
 lapsed_then out more old mid new first then = record {
   force = λ h. grind (arith, nat_tests, first.force h, then.force h);
   marks = λ h e. grind (arith, nat_tests, first.marks h e, then.marks h e);
 }
+
+-- of another hall than i it is the same whether i is counted
+below_other : (i : ℕ) (test : ℕ → Bool) (h : ℕ) → (h ≡ i → ⊥) → Below i test h ≡ Below (i + 1) test h
+below_other i test h apart = grind (arith, nat_tests)
 
 -- the hall at i passes, or it does not
 pub below_yes : (i : ℕ) (test : ℕ → Bool) → test i ≡ true → (h : ℕ) → (Below i test h || eqb h i) ≡ Below (i + 1) test h
@@ -95,3 +120,9 @@ all_turns s old new halls i count last (counted, lapsed) =
       lapsed_same _ _ old new (λ h. ap (λ n. Below n test h) e ∙ past test most_halls halls many (none_past old s) h) lapsed,
     ))
     (cases_lt halls most_halls)
+
+-- no hall is in force whose signs are all off
+pub all_off : (n h : ℕ) → get_or (replicate n false) h false ≡ false
+all_off zero h = refl
+all_off (suc n) zero = refl
+all_off (suc n) (suc h) = all_off n h

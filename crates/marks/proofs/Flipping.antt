@@ -4,7 +4,7 @@ use lib.Bits.{bit_xor, xor_shr, xor_mod, xor_zero_r}
 use Rattle.std.proofs.lemmas.Nat.{mod_below}
 use Rattle.std.proofs.lemmas.Bool.Decides.{nat_tests}
 use Rattle.std.proofs.lemmas.List.{get_or-set_same, get_or-set_other}
-use Rattle.std.proofs.lemmas.Bool.{cases_eq, cases_lt, eqb-true, and_parts}
+use Rattle.std.proofs.lemmas.Bool.{cases_eq, cases_lt, eqb-true, and_parts, cond-false, ne_eqb}
 use Rattle.layout.specs.Limits.{most_halls, most_legs}
 use Rattle.marks.specs.Mark.{bit_set, flipped, possible}
 use Rattle.marks.specs.declared.words.MarkWords.{MarkWords}
@@ -54,6 +54,14 @@ module _ (w : MarkWords) (hall leg : ℕ) (full : length w.bits ≡ most_legs) (
   -- in any other
   other_word : (h k : ℕ) → (k ≡ leg → ⊥) → bit_set (flipped w hall leg) h k ≡ bit_set w h k
   other_word h k apart = ap (λ n. eqb (n / 2 ^ h % 2) 1) (get_or-set_other w.bits leg k _ 0 apart)
+
+  -- nor another hall's mark
+  other_hall : (h k : ℕ) → (h ≡ hall → ⊥) → h < most_halls → bit_set (flipped w hall leg) h k ≡ bit_set w h k
+  other_hall h k apart lj =
+      ⊎_elim
+      (λ q. ap (bit_set (flipped w hall leg) h) q ∙ own_word h lj ∙ cond-false _ _ _ (ne_eqb h hall apart) ∙ ap (bit_set w h) (sym q))
+      (λ q. other_word h k q)
+      (cases_eq k leg)
 
   pub marks_turned : (on : Bool) → not (bit_set w hall leg) ≡ on → (h k : ℕ)
       → (possible h k && bit_set (flipped w hall leg) h k) ≡ cond (eqb h hall && eqb k leg) (possible hall leg && on) (possible h k && bit_set w h k)

@@ -222,12 +222,17 @@ pub sought_within : (c : Inside) → Chained c → (n from k : ℕ) → Sought (
 sought_within c h n from k here =
     let within = slice_get_within (ends_of c) k n here.0 in let many = count_is c h in let few = h.few in omega arith
 
+-- so do those of any list of no more numbers than the tables have places
+pub sought_below : (ks : List ℕ) (n from k : ℕ) → length ks ≤ 512 → Sought ks n from (Some k) → k < 512
+sought_below ks n from k few h = let w = slice_get_within ks k n h.0 in omega arith
+
 -- how far a place of a chain is from the end of the table
 abbrev pub left : Option ℕ → ℕ
 left None = 0
 left (Some k) = 513 - k
 
-rises : (ks : List ℕ) (n k : ℕ) (o : Option ℕ) → k < 512 → Next ks n (k + 1) o → left o < left (Some k)
+-- in any list, a place is followed by a higher one
+pub rises : (ks : List ℕ) (n k : ℕ) (o : Option ℕ) → k < 512 → Next ks n (k + 1) o → left o < left (Some k)
 rises ks n k None lt h = omega arith
 rises ks n k (Some m) lt h = let low = h.0 in omega arith
 

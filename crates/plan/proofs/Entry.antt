@@ -1,12 +1,25 @@
 -- What entering keeps of a drawing. Assumes nothing.
-use Rattle.std.proofs.Common.{◌≡◌, ℕ, ◌+◌, ◌<◌, ◌≤◌, List, ◌∷◌, [], ◌++◌, map, length, take, set, sym, ap, ◌∙◌, subst, ⊎_elim, arith}
+use Rattle.std.proofs.Common.{◌≡◌, ℕ, ◌+◌, ◌<◌, ◌≤◌, true, leb, List, ◌∷◌, [], ◌++◌, map, length, get_or, take, set, Some, sym, ap, ◌∙◌, subst, ⊎_elim, arith}
+use Rattle.std.specs.Option.{option_map}
+use Rattle.std.specs.List.{slice_get}
 use Rattle.std.proofs.lemmas.List.{length-map, length-take-le, length_push, take_more_set, map_push}
-use Rattle.layout.specs.Plant.{Leg, Plant, Sound, SoundLeg, leg_of}
+use Rattle.std.proofs.lemmas.Bool.{leb-true, and_parts}
+use Rattle.layout.specs.Limits.{halls_fit}
+use Rattle.layout.specs.Plant.{Leg, Plant, Sound, SoundLeg, tails, heads, leg_of}
 use Rattle.layout.specs.declared.belt.Belt.{Belt}
 use Rattle.plan.specs.Entered.{plant_of}
-use Rattle.plan.specs.Drawn.{drawn, with_junction, with_leg}
+use Rattle.plan.specs.Drawn.{drawn, begun, with_junction, with_leg}
 use Rattle.plan.specs.declared.drawing.Drawing.{Drawing}
+use Rattle.layout.proofs.Listed.{nth_map, from_mapped}
+use Rattle.plan.proofs.Fronts.{read_mapped}
 use Rattle.plan.proofs.Pushed.{old_or_new}
+
+-- the ends of the legs exist
+pub tails_exist : (p : Plant) → Sound p → (i n : ℕ) → slice_get (tails p) i ≡ Some n → n < length p.hall_of
+tails_exist p s i n e = from_mapped (λ l. l.tail) (λ m. m < length p.hall_of) (slice_get p.legs i) n (sym (nth_map (λ (l : Leg). l.tail) p.legs i) ∙ e) (λ x h. (s.each_leg i x h).tail_exists)
+
+pub heads_exist : (p : Plant) → Sound p → (i n : ℕ) → slice_get (heads p) i ≡ Some n → n < length p.hall_of
+heads_exist p s i n e = from_mapped (λ l. l.head) (λ m. m < length p.hall_of) (slice_get p.legs i) n (sym (nth_map (λ (l : Leg). l.head) p.legs i) ∙ e) (λ x h. (s.each_leg i x h).head_exists)
 
 pub with_leg_sound : (p : Plant) (l : Leg) → Sound p → SoundLeg (length p.hall_of) l → length p.legs < 512 → Sound (with_leg p l)
 with_leg_sound p l s sl h = record {
@@ -38,6 +51,18 @@ with_junction_sound p hall s in_range h = record {
   each_leg = λ k leg e. more_junctions _ _ leg (simp length_push (omega arith)) (s.each_leg k leg e);
 }
 
+pub begun_sound : (halls : ℕ) → halls_fit halls ≡ true → Sound (begun halls)
+begun_sound halls fit =
+    let both = and_parts (leb 1 halls) (leb halls 32) fit in
+    record {
+      some_halls = leb-true 1 halls both.0;
+      few_halls = leb-true halls 32 both.1;
+      few_junctions = omega arith;
+      few_legs = omega arith;
+      hall_exists = λ k x e. let z : ◌≡◌ {A = ℕ} 0 1 = cc in absurd (let w : ⊥ = omega arith in w);
+      each_leg = λ k leg e. let z : ◌≡◌ {A = ℕ} 0 1 = cc in absurd (let w : ⊥ = omega arith in w);
+    }
+
 module _ (d : Drawing) where
   -- the numbers of entries are the counts
   pub points_are : length (drawn d).hall_of ≡ d.points
@@ -47,6 +72,15 @@ module _ (d : Drawing) where
   count_is =
       let few = d.few_belts in let wide = d.wide_belts in
       length-map (take d.count d.tables.belts) leg_of ∙ length-take-le d.count d.tables.belts (omega arith)
+
+  pub ends_are : (end : Leg → ℕ) → length (map end (drawn d).legs) ≡ d.count
+  ends_are end = length-map (drawn d).legs end ∙ count_is
+
+  -- an end of a leg that was entered
+  pub end_at : (end : Leg → ℕ) (i : ℕ) (unused : Belt) → i < d.count → slice_get (map end (drawn d).legs) i ≡ Some (end (leg_of (get_or d.tables.belts i unused)))
+  end_at end i unused lt =
+      let few = d.few_belts in let wide = d.wide_belts in
+      nth_map end (drawn d).legs i ∙ ap (option_map end) (read_mapped d.tables.belts d.count i leg_of unused lt (omega arith))
 
   -- the plant after a junction, or a leg, was entered
   pub placed : (hall : ℕ) → d.points < 256 → plant_of d.halls (d.points + 1) (set d.tables.places d.points hall) d.count d.tables.belts ≡ with_junction (drawn d) hall

@@ -1,3 +1,6 @@
 pub mod Pushed
 pub mod Chaining
+pub mod Fronts
 pub mod Entry
+pub mod Props
+pub mod Passed

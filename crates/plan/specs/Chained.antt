@@ -21,6 +21,7 @@ pub record Linked (ks : List ℕ) (first last next : List (Option ℕ)) : Type 0
   pub wide_first : length first ≡ 256
   pub wide_last : length last ≡ 256
   pub wide_next : length next ≡ 512
+  deriving IsProp as LinkedProp
 
 -- the chains are those of the junctions, of which each has a place in the tables
 pub record Chained (c : Inside) : Type 0 where
@@ -28,3 +29,4 @@ pub record Chained (c : Inside) : Type 0 where
   pub wide_ends : length c.links.ends ≡ 512
   pub low : (k n : ℕ) → slice_get (ends_of c) k ≡ Some n → n < 256
   pub linked : Linked (ends_of c) c.links.first c.links.last c.links.next
+  deriving IsProp as ChainedProp

@@ -1,11 +1,15 @@
 -- Lines accepted one after the other. Assumes nothing.
-use Rattle.std.proofs.Common.{◌≡◌, ℕ, zero, suc, ◌+◌, ◌-◌, ◌≤◌, List, [], ◌∷◌, ◌++◌, length, drop, sym, refl, ap, ◌∙◌, subst, append_assoc, add-one, arith}
+use Rattle.std.proofs.Common.{◌≡◌, ℕ, zero, suc, ◌+◌, ◌-◌, ◌<◌, ◌≤◌, List, [], ◌∷◌, ◌++◌, length, drop, sym, refl, ap, ◌∙◌, subst, append_assoc, add-one, arith}
 use Rattle.std.proofs.lemmas.List.{length-append, drop_at}
+use Rattle.tokens.proofs.Cutting.{line_shorter}
 use Rattle.plan_text.specs.Heard.{Heard}
 use Rattle.plan_text.specs.Reads.{Accepts, Lines, EndsWith}
 
--- a text ends with what comes after an accepted line
+-- an accepted line takes a byte at least, and the text ends with what comes after it
 module _ (h : Heard) (line : ℕ) (text : List ℕ) (after : Heard) (rest : List ℕ) (a : Accepts h line text after rest) where
+  pub accepted_shorter : length rest < length text
+  accepted_shorter = line_shorter text a.bytes rest a.cut
+
   pub accepted_tail : (before : List ℕ) → EndsWith before text → EndsWith before rest
   accepted_tail before (front, e) = (
     front ++ (a.bytes ++ (10 ∷ [])),

@@ -1,11 +1,17 @@
--- What is not there: bytes in an empty text, and values of the form asked for. Assumes nothing.
+-- The refusal that an answer comes from, and what is not there: bytes in an empty text, and values of the form asked for. Assumes nothing.
 use Rattle.std.proofs.Common.{◌≡◌, ℕ, true, false, eqb, List, [], ◌∷◌, length, Some, None, Err, Option, refl, ap, arith, MatchOption}
 use Rattle.std.proofs.lemmas.Bool.{both_ways, eq-eqb, eqb-true}
 use Rattle.std.specs.Option.{ok_or}
+use Rattle.layout.specs.Refused.{answered}
 use Rattle.layout.specs.declared.refusal.Refusal.{Refusal}
 use Rattle.layout.specs.declared.refusal.Refusal.TheVariants.{WrongForm}
 use Rattle.tokens.specs.Values.{Numbers}
 use Rattle.plan_text.specs.Formed.{Formed}
+
+-- a call that answers with a refusal was refused by its checks
+pub refused_by : {X : Type 0} (o : Option Refusal) (x : X) (r : Refusal) → answered o x ≡ Err r → o ≡ Some r
+refused_by None x r e = absurd (let w : ⊥ = grind arith in w)
+refused_by (Some s) x r e = cc
 
 -- a text is empty where its length is 0, and only there
 pub empty_text : (text : List ℕ) → eqb (length text) 0 ≡ true → text ≡ []

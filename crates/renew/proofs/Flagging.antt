@@ -108,6 +108,9 @@ past_then n d e f first then = record {
   settled = then.settled ∙ first.settled;
 }
 
+pub both : {A B : Type 0} → A → B → A × B
+both a b = (a, b)
+
 pub same_then : {T : Type 0} {a b c : Tables T} → SameTables a b → SameTables b c → SameTables a c
 same_then first then = record {
   totals = then.totals ∙ first.totals;

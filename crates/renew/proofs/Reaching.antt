@@ -3,7 +3,7 @@ use Rattle.std.proofs.Common.{◌≡◌, ℕ, ◌+◌, ◌<◌, Bool, true, fals
 use Rattle.std.specs.Option.{option_map}
 use Rattle.std.specs.List.{slice_get}
 use Rattle.std.proofs.lemmas.List.{length-map}
-use Rattle.std.proofs.lemmas.Bool.{both_ways, cases_Bool, cases_eq, cases_lt, eqb-true}
+use Rattle.std.proofs.lemmas.Bool.{both_ways, cases_Bool, cases_eq, cases_lt, eq-eqb, eqb-true}
 use Rattle.measure.specs.Scale.{Scale}
 use Rattle.layout.specs.Plant.{Leg, Plant, heads, Next}
 use Rattle.layout.proofs.Listed.{nth_map, nth_within}
@@ -26,6 +26,12 @@ head_within p e v there =
     let w = nth_within (heads p) e v there in
     let long = length-map p.legs (λ (l : Leg). l.head) in
     omega arith
+
+head_there : (p : Plant) (e v : ℕ) → slice_get (heads p) e ≡ Some v → (leg_at p e).is_open ≡ true → (leg_at p e).head ≡ v
+head_there p e v there is_open =
+    let here : Some (leg_at p e).head ≡ Some v = sym (open_head p e is_open) ∙ there in
+    let same : (leg_at p e).head ≡ v = cc in
+    same
 
 -- an open leg to v with a number below k comes from inside the hall
 abbrev pub Quiet : Plant → ℕ → ℕ → ℕ → Type 0
@@ -51,6 +57,17 @@ quiet_more p v hall from leg r quiet (low, here, next) decides no_more e below i
     (cases_eq e leg)
 
 module _ {T : Type 0} (m : Scale T) (p : Plant) (v hall : ℕ) where
+  -- a leg from outside makes an entry
+  pub entry_here : (leg : ℕ) → eqb (hall_at p v) hall ≡ true → slice_get (heads p) leg ≡ Some v → (leg_at p leg).is_open ≡ true → eqb (hall_at p (leg_at p leg).tail) hall ≡ false
+      → Entry (net m p) (hall_at p) hall v
+  entry_here leg inside there is_open outside = record {
+    inside = eqb-true (hall_at p v) hall inside;
+    leg = leg;
+    usable = is_open;
+    leads = head_there p leg v there is_open;
+    outside = λ same. both_ways (eqb (hall_at p (leg_at p leg).tail) hall) outside (eq-eqb _ _ same);
+  }
+
   -- where no leg from outside is left there is none
   pub no_entry : (from : ℕ) → Quiet p v hall from → Next (heads p) v from None → Entry (net m p) (hall_at p) hall v → ⊥
   no_entry from quiet none entry =
@@ -58,3 +75,6 @@ module _ {T : Type 0} (m : Scale T) (p : Plant) (v hall : ℕ) where
       (λ before. entry.outside (eqb-true _ _ (quiet entry.leg before entry.usable entry.leads)))
       (λ after. none entry.leg after (open_head p entry.leg entry.usable ∙ ap Some entry.leads))
       (cases_lt entry.leg from)
+
+  pub not_inside : eqb (hall_at p v) hall ≡ false → Entry (net m p) (hall_at p) hall v → ⊥
+  not_inside out entry = both_ways (eqb (hall_at p v) hall) out (eq-eqb _ _ entry.inside)

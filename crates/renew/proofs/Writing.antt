@@ -10,6 +10,10 @@ use Rattle.walks.specs.Marks.{BothEnds}
 use Rattle.walks.specs.Net.{net, hall_at}
 use Rattle.renew.specs.Flags.{LeadsBest, FlaggedTo, Written}
 
+-- at first nothing is written
+pub written_none : (hall : ℕ) (P : ℕ → Type 0) (old : Marks) → Written hall 0 P old old
+written_none hall P old = record { exactly = λ e below. absurd (let w : ⊥ = omega (arith, below) in w); others = λ h e out. refl }
+
 -- one leg more, and nothing else
 written_more :
     (hall i : ℕ) (P : ℕ → Type 0) (old mid new : Marks) → Written hall i P old mid

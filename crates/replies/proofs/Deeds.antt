@@ -7,7 +7,7 @@ use Rattle.layout.specs.declared.refusal.Refusal.{Refusal}
 use Rattle.layers.specs.declared.sheet.Sheet.{Sheet}
 use Rattle.halls.specs.declared.force.HallMarks.{HallMarks}
 use Rattle.walks.specs.Answers.{Answer}
-use Rattle.walks.specs.Book.{Call, renew}
+use Rattle.walks.specs.Book.{Call, renew, route}
 use Rattle.router.specs.Ordered.{lapsed_answer, marked_answer}
 use Rattle.router.specs.Worked.{GoesOn}
 use Rattle.order_text.specs.declared.order.Order.{Order}
@@ -25,6 +25,11 @@ enough n l e = omega (arith, length-take n l)
 pub renew_roomy : {T : Type 0} (hall : ℕ) (b : Board T) → Roomy b
     → renew hall (length b.tables.totals.now) (length b.tables.came.now) (length b.tables.waiting.now) (length b.tables.settled.now) ≡ renew hall 256 256 256 256
 renew_roomy hall b room = let h = room.totals in let i = room.came in let j = room.waiting in let k = room.settled in cc
+
+pub route_roomy : {T : Type 0} (start goal : ℕ) (b : Board T) → Roomy b
+    → route start goal (length b.tables.totals.now) (length b.tables.came.now) (length b.tables.waiting.now) (length b.tables.settled.now) (length b.way.now) ≡ route start goal 256 256 256 256 256
+route_roomy start goal b room =
+    let h = room.totals in let i = room.came in let j = room.waiting in let k = room.settled in let l = room.way in cc
 
 module _ {T : Type 0} (m : Scale T) (shows : T → List ℕ) (p : Plant) (line : ℕ) (o : Order) (s s' : Sheet) (halls halls' : HallMarks) (old new : List ℕ) where
   lapsed_told : (r : Result ℕ Refusal) → written (lapsed_reply line r) ≡ written_answer shows line (lapsed_answer r)

@@ -86,6 +86,8 @@ fn answer_by<M: Printing, A: Allocator>(
 }
 
 // Answers the lines after a plan by the measure of that kind. The memory for totals is made here, where their size is known.
+// Always inlined: as a function of its own it takes another copy of the plan and of the router on the stack.
+#[inline(always)]
 fn answer_by_kind<A: Allocator>(
     out: &mut String<A>,
     kind: Kind,

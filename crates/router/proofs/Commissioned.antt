@@ -1,9 +1,11 @@
 -- A history begins with commissioning. Assumes nothing.
-use Rattle.std.proofs.Common.{◌≡◌, ℕ, zero, suc, ◌<◌, true, false, ◌&&◌, ltb, [], length, get_or, replicate, None, refl, ap, ◌∙◌, arith}
+use Rattle.std.proofs.Common.{◌≡◌, ℕ, zero, suc, ◌<◌, true, false, ◌&&◌, ltb, [], length, get_or, replicate, Some, None, Ok, Err, Option, Result, sym, refl, ap, ◌∙◌, arith}
 use Rattle.std.specs.Option.{option_map}
 use Rattle.std.proofs.lemmas.Bool.{lt-ltb}
 use Rattle.measure.specs.Scale.{Scale}
 use Rattle.layout.specs.Plant.{Plant, Sound}
+use Rattle.layout.specs.Refused.{answered}
+use Rattle.layout.specs.declared.refusal.Refusal.{Refusal}
 use Rattle.layers.specs.Day.{blank}
 use Rattle.layers.specs.declared.sheet.Sheet.{Sheet}
 use Rattle.marks.specs.Mark.{is_marked, possible}
@@ -38,3 +40,12 @@ commissioned m p sound s halls empty force marks = record {
   left = refl;
   marks = record { force = λ h hall. force h; marked = λ h e hall leg. marks h e ∙ within p sound h e hall leg };
 }
+
+-- what the answer of an order on the sheet says of its refusal
+pub answered_ok : (due : Option Refusal) (u : Unit {0}) → ◌≡◌ {A = Result (Unit {0}) Refusal} (Ok u) (answered due tt) → due ≡ None
+answered_ok None u e = refl
+answered_ok (Some r) u e = absurd (let w : ⊥ = grind arith in w)
+
+pub answered_err : (due : Option Refusal) (r : Refusal) → ◌≡◌ {A = Result (Unit {0}) Refusal} (Err r) (answered due tt) → due ≡ Some r
+answered_err None r e = absurd (let w : ⊥ = grind arith in w)
+answered_err (Some x) r e = let same : r ≡ x = cc in ap Some (sym same)

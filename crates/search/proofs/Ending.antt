@@ -1,11 +1,13 @@
 -- What a search leaves in tables of which it was handed the fronts. Assumes nothing.
-use Rattle.std.proofs.Common.{◌≡◌, ℕ, ◌≤◌, List, ◌++◌, length, take, drop, Option, sym, ap, ◌∙◌, subst}
+use Rattle.std.proofs.Common.{◌≡◌, ℕ, ◌≤◌, List, ◌++◌, length, take, drop, Option, sym, ap, ◌∙◌, subst, arith}
 use borrow.Rule.Slice.PartMut.{post_of}
 use Rattle.measure.specs.Scale.{Scale}
 use Rattle.layout.specs.Plant.{Plant}
 use Rattle.walks.specs.Net.{net, junctions}
 use Rattle.walks.specs.Search.{Searched}
 use Rattle.walks.specs.Tables.{tabled, Held}
+use Rattle.std.proofs.lemmas.List.{length-take-le}
+use Rattle.search.specs.Counted.{Counted}
 use Rattle.search.specs.Explored.{Left}
 use Rattle.search.specs.Standing.{TablesOf}
 use Rattle.search.specs.declared.slot.Slot.{Slot}
@@ -35,4 +37,10 @@ module _ {T : Type 0} (m : Scale T) (p : Plant) (start : ℕ) (goal : Option ℕ
     past_came = past_is (junctions p) k came cs tables.all_came whole;
     past_waiting = past_is (junctions p) k waiting ws all_waiting whole;
     past_settled = past_list (junctions p) k settled ss all_settled whole count few (past ∙ ap (λ j. drop count (take j settled)) whole) long;
+  }
+
+  pub search_counted : Counted p (ss ++ post_of 0 k settled) count
+  search_counted = record {
+    whole_list = ap length (list_is (junctions p) k settled ss all_settled whole count few) ∙ length-take-le count ss (omega arith);
+    few = few;
   }

@@ -1,7 +1,7 @@
 -- A table whose front was handed on, and what stands past it. Assumes nothing.
 use Rattle.std.proofs.Common.{◌≡◌, ℕ, ◌≤◌, List, ◌++◌, length, take, drop, sym, ap, ◌∙◌, arith}
 use borrow.Rule.Slice.PartMut.{post_of}
-use Rattle.std.proofs.lemmas.List.{take-append-le, drop-append-le, take-append-drop, length-take-le}
+use Rattle.std.proofs.lemmas.List.{length-append, take-append-le, drop-append-le, take-append-drop, length-take-le}
 use Rattle.std.proofs.lemmas.Slice.{take-put_mid, drop-put_mid}
 
 module _ {X : Type 0} (n k : ℕ) (xs ys : List X) (all : length ys ≡ n) (front : k ≡ n) where
@@ -10,6 +10,9 @@ module _ {X : Type 0} (n k : ℕ) (xs ys : List X) (all : length ys ≡ n) (fron
 
   pub past_is : drop n (ys ++ post_of 0 k xs) ≡ drop n xs
   past_is = drop-put_mid 0 k xs ys n (omega arith) (omega arith) (omega arith)
+
+  pub front_long : n ≤ length (ys ++ post_of 0 k xs)
+  front_long = let parts = length-append ys (post_of 0 k xs) in omega arith
 
   -- a list in the front, and what stands past it
   pub list_is : (count : ℕ) → count ≤ n → take count (ys ++ post_of 0 k xs) ≡ take count ys

@@ -1,14 +1,15 @@
 -- From what a search left in its tables to what it answers. Assumes nothing.
-use Rattle.std.proofs.Common.{◌≡◌, ℕ, suc, ◌<◌, ◌≤◌, Bool, true, false, cond, not, ◌||◌, eqb, ltb, List, [], ◌∷◌, length, get_or, take, drop, Some, None, Option, sym, refl, ap, ◌∙◌, subst, ⊎_elim, arith}
+use Rattle.std.proofs.Common.{◌≡◌, ℕ, suc, ◌<◌, ◌≤◌, Bool, true, false, cond, not, ◌||◌, eqb, ltb, ◌≢◌, List, [], ◌∷◌, length, get_or, take, drop, Some, None, Ok, Err, Option, Result, sym, refl, ap, ◌∙◌, subst, inr, ⊎_elim, arith}
 use Rattle.std.specs.List.{ContainsAt as Has}
 use Rattle.std.proofs.lemmas.List.{get_or-take, get_or_default, length-take-le}
 use Rattle.std.proofs.ByRecursion.{has_append_right, has_append_left, has_push}
-use Rattle.std.proofs.lemmas.Bool.{ltb-true, cases_eq, ne_eqb}
+use Rattle.std.proofs.lemmas.Bool.{lt-ltb, ltb-true, cases_eq, ne_eqb}
 use Rattle.layout.specs.declared.refusal.Refusal.{Refusal}
 use Rattle.measure.specs.Scale.{Scale, Lawful}
 use Rattle.layout.specs.Plant.{Plant, Sound}
 use Rattle.layout.specs.Refused.{refuse_unless}
 use Rattle.layout.specs.declared.refusal.Refusal.TheVariants.{NoJunction}
+use Rattle.walks.specs.Book.{short_table}
 use Rattle.walks.specs.Net.{net, junctions, leg_at}
 use Rattle.walks.specs.Search.{State, Settled, Searched}
 use Rattle.walks.specs.Search as rule
@@ -18,12 +19,13 @@ use Rattle.walks.proofs.Choosing.{none_some, some_same}
 use Rattle.walks.proofs.Nets.{net_finite}
 use Rattle.walks.proofs.Results.{settled_best, traced_walk, found_exactly}
 use Rattle.walks.specs.Walk.{Walk, total, Best}
-use Rattle.search.specs.Answered.{Reached, Stranded, search_due}
+use Rattle.search.specs.Answered.{Reached, Stranded, search_due, CarriedOut, Answered}
+use Rattle.search.specs.declared.found.Found.{Found}
 use Rattle.search.specs.Desk.{Desk}
 use Rattle.search.specs.Traces.{Tailed, Falling, TracedBack}
 use Rattle.search.specs.Way.{Traced, origin, back, Falls, came_by, tail_of, place_in}
 use Rattle.search.proofs.Earlier.{Earlier, searched_earlier}
-use Rattle.search.proofs.Tabled.{has_place}
+use Rattle.search.proofs.Tabled.{has_place, at_start, by_a_leg, by_none}
 
 -- whoever has a place in a list stands in it
 pub there_place : (xs : List ℕ) (v : ℕ) → place_in xs v < length xs → Has xs v
@@ -107,6 +109,12 @@ module _ {T : Type 0} {m : Scale T} (laws : Lawful m) (p : Plant) (start goal : 
   abbrev s' : State T
   s' = tabled m start (take (junctions p) totals) (take (junctions p) came) settled
 
+  front_came : get_or (take (junctions p) came) goal no_came_by ≡ get_or came goal 0
+  front_came = get_or-take (junctions p) came goal no_came_by goal_in ∙ get_or_default came goal no_came_by 0 (omega arith)
+
+  front_total : (d : T) → junctions p ≤ length totals → get_or (take (junctions p) totals) goal m.unit ≡ get_or totals goal d
+  front_total d far = get_or-take (junctions p) totals goal m.unit goal_in ∙ get_or_default totals goal m.unit d (omega arith)
+
   -- the fronts of the tables show of the goal what the tables show
   pub front_shows : s'.total goal ≡ (tabled m start totals came []).total goal
   front_shows =
@@ -119,10 +127,23 @@ module _ {T : Type 0} {m : Scale T} (laws : Lawful m) (p : Plant) (start goal : 
       let told = traced_walk laws (net m p) start (Some goal) s' searched goal x has in
       (found_exactly laws (net m p) start goal s' searched).1 (told.0, told.2)
 
+  pub total_at_start : (d : T) → junctions p ≤ length totals → goal ≡ start → s'.total goal ≡ Some (get_or totals goal d)
+  total_at_start d far same =
+      ap s'.total same ∙ at_start m start (take (junctions p) totals) (take (junctions p) came) settled
+      ∙ ap (λ k. Some (get_or (take (junctions p) totals) k m.unit)) (sym same) ∙ ap Some (front_total d far)
+
+  pub total_by_leg : (d : T) → junctions p ≤ length totals → get_or came goal 0 ≢ no_came_by → s'.total goal ≡ Some (get_or totals goal d)
+  total_by_leg d far some =
+      by_a_leg m start (take (junctions p) totals) (take (junctions p) came) settled goal (λ none. some (sym front_came ∙ none)) ∙ ap Some (front_total d far)
+
   pub stranded : s'.total goal ≡ None → (way : List ℕ) → Stranded (net m p) start goal s' way way
   stranded no_total way =
       let out : ¬ Settled s' goal = λ h. none_some no_total (settled_best laws (net m p) start (Some goal) s' searched goal h).1 in
       record { unsettled = out; no_walk = λ leads. out ((found_exactly laws (net m p) start goal s' searched).1 leads); same_way = refl }
+
+  -- the same of another goal than the start that nothing came by
+  pub stranded_by_none : goal ≢ start → get_or came goal 0 ≡ no_came_by → (way : List ℕ) → Stranded (net m p) start goal s' way way
+  stranded_by_none apart none way = stranded (by_none m start (take (junctions p) totals) (take (junctions p) came) settled goal apart (front_came ∙ none)) way
 
   -- the way that was traced is a best walk
   pub reached : (x : T) → s'.total goal ≡ Some x → (count legs : ℕ) (way way' : List ℕ) → rule.Traced (net m p) s' goal (take legs way')
@@ -143,6 +164,22 @@ module _ {T : Type 0} {m : Scale T} (laws : Lawful m) (p : Plant) (start goal : 
         whole_way = length-take-le legs way' room;
         past_way = past;
       }
+
+-- what was carried out is what is answered
+pub carried_answered : {T : Type 0} (m : Scale T) (p : Plant) (start goal : ℕ) (d : Desk T) (way : List ℕ) (d' : Desk T) (way' : List ℕ) (r : Result (Found T) Refusal)
+    → CarriedOut m p start goal d way d' way' r → Answered m p start goal d way d' way' r
+carried_answered m p start goal d way d' way' (Ok f) carried = carried
+carried_answered m p start goal d way d' way' (Err e) carried = inr carried
+
+-- nothing speaks against the search where both junctions exist and each table has its places
+pub none_due : {T : Type 0} (p : Plant) (start goal : ℕ) (d : Desk T) (way : List ℕ) → start < junctions p → goal < junctions p
+    → short_table (junctions p) 1 (length d.totals ∷ length d.came ∷ length d.waiting ∷ length d.settled ∷ length way ∷ []) ≡ None
+    → search_due p start goal d way ≡ None
+none_due p start goal d way start_in goal_in sizes =
+    let sizes_of = short_table (junctions p) 1 (length d.totals ∷ length d.came ∷ length d.waiting ∷ length d.settled ∷ length way ∷ []) in
+    ap (λ b. refuse_unless b (NoJunction 1) (refuse_unless (ltb goal (junctions p)) (NoJunction 2) sizes_of)) (lt-ltb start (junctions p) start_in)
+    ∙ ap (λ b. refuse_unless b (NoJunction 2) sizes_of) (lt-ltb goal (junctions p) goal_in)
+    ∙ sizes
 
 -- a check that refuses nothing is passed, and so are those after it
 passed : (b : Bool) (r : Refusal) (later : Option Refusal) → refuse_unless b r later ≡ None → (b ≡ true) × (later ≡ None)

@@ -78,6 +78,12 @@ module _ {M : Type 0} where
   few_slots : (us : List (Slot M)) (n : ℕ) → apart us ≡ true → Below us n → length us ≤ n
   few_slots us n a b = let h = slots_counted us n a b in let k = count_few (λ q. is_some (total_of us q)) n in omega arith
 
+  pub few_used : (queue : Queue M) (n : ℕ) → ((q : ℕ) (x : M) → waiting queue q ≡ Some x → q < n) → queue.used ≤ n
+  few_used queue n b =
+      let e = length-take-le queue.used queue.slots.now queue.fits in
+      let h = few_slots (take queue.used queue.slots.now) n queue.distinct b in
+      omega arith
+
   pub room_for : (queue : Queue M) (n v : ℕ) → M → ((q : ℕ) (x : M) → waiting queue q ≡ Some x → q < n) → waiting queue v ≡ None → v < n → queue.used < n
   room_for queue n v x b fresh lt =
       let us = take queue.used queue.slots.now in

@@ -1,9 +1,9 @@
 -- What putting in, lowering and taking out do to slots that hold different numbers. Assumes nothing.
-use Rattle.std.proofs.Common.{◌≡◌, ℕ, zero, suc, ◌<◌, ◌≤◌, true, false, cond, not, eqb, List, [], ◌∷◌, ◌++◌, length, get_or, take, set, is_some, Some, None, Option, sym, refl, ap, ◌∙◌, subst, ⊎_elim, arith}
+use Rattle.std.proofs.Common.{◌≡◌, ℕ, zero, suc, ◌+◌, ◌<◌, ◌≤◌, true, false, cond, not, eqb, List, [], ◌∷◌, ◌++◌, length, get_or, take, set, is_some, Some, None, Option, sym, refl, ap, ◌∙◌, subst, ⊎_elim, arith}
 use Rattle.std.specs.List.{HoldsAt, position, position_or_len}
 use Rattle.std.specs.Map.{update}
 use Rattle.std.specs.Option.{MatchOption}
-use Rattle.std.proofs.lemmas.List.{length-take-le, get_or-take}
+use Rattle.std.proofs.lemmas.List.{length-take-le, get_or-take, take_more}
 use Rattle.std.specs.Prelude.{◌==◌}
 use Rattle.std.proofs.lemmas.List.Sums.{passes_at_first, fails_before_first}
 use Rattle.std.proofs.lemmas.Bool.{lt-ltb, le-ltb, cases_lt, and_parts, and_from, cases_Bool, eqb-true, eqb-false, eq-eqb, ne_eqb, cond-true, cond-false}
@@ -69,6 +69,10 @@ module _ {M : Type 0} where
   last_lacks : (xs : List (Slot M)) (s : Slot M) (q : ℕ) → (s.number ≡ q → ⊥) → total_of xs q ≡ None → total_of (xs ++ (s ∷ [])) q ≡ None
   last_lacks [] s q other none = cond-false _ _ _ (ne_eqb q s.number (λ e. other (sym e)))
   last_lacks (w ∷ xs) s q other none = cond-false _ _ _ (not_first w xs q none) ∙ last_lacks xs s q other (not_others w xs q none)
+
+  pub lacks_more : (xs : List (Slot M)) (i q : ℕ) (s : Slot M) → i < length xs → s ≡ get_or xs i s → (s.number ≡ q → ⊥) → total_of (take i xs) q ≡ None → total_of (take (i + 1) xs) q ≡ None
+  lacks_more xs i q s lt read other none =
+      ap (λ l. total_of l q) (take_more xs i s lt) ∙ last_lacks (take i xs) (get_or xs i s) q (λ e. other (ap (λ t. t.number) read ∙ e)) none
 
   -- one slot more at the end, with a number that does not wait
   pub put_total : (xs : List (Slot M)) (s : Slot M) → total_of xs s.number ≡ None → (q : ℕ) → total_of (xs ++ (s ∷ [])) q ≡ written_at (total_of xs) s.number (Some s.total) q

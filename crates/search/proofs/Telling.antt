@@ -1,15 +1,18 @@
 -- What a search without a goal has settled. Assumes nothing.
-use Rattle.std.proofs.Common.{◌≡◌, ℕ, ◌<◌, ◌≤◌, length, get_or, take, None, unwrap_or, sym, ap, ◌∙◌, subst}
+use Rattle.std.proofs.Common.{◌≡◌, ℕ, ◌<◌, ◌≤◌, List, length, get_or, take, None, Ok, Err, Result, unwrap_or, sym, ap, ◌∙◌, subst}
 use Rattle.std.proofs.lemmas.List.{get_or-take}
 use Rattle.measure.specs.Scale.{Scale, Lawful}
 use Rattle.layout.specs.Plant.{Plant, Sound}
-use Rattle.walks.specs.Net.{net, junctions}
+use Rattle.layout.specs.declared.refusal.Refusal.{Refusal}
+use Rattle.layout.specs.declared.refusal.Refusal.TheVariants.{NoWay}
+use Rattle.walks.specs.Net.{Net, net, junctions}
 use Rattle.walks.specs.Search.{State, Settled}
 use Rattle.walks.specs.Walk.{Best}
 use Rattle.walks.proofs.Results.{settled_best, found_all}
-use Rattle.search.specs.Answered.{shown}
+use Rattle.search.specs.Answered.{shown, Told}
 use Rattle.search.specs.Desk.{Desk}
-use Rattle.search.specs.Counted.{SettledAll}
+use Rattle.search.specs.Counted.{Counted, AllCounted, SettledAll}
+use Rattle.search.specs.declared.found.Found.{Found}
 use Rattle.search.specs.Explored.{Left}
 use Rattle.search.proofs.Guiding.{settled_exists}
 
@@ -32,3 +35,12 @@ module _ {T : Type 0} {m : Scale T} (laws : Lawful m) (p : Plant) (sound : Sound
 
   pub settled_all : SettledAll m p start d' count
   settled_all = record { exactly = found_all laws (net m p) start s left.searched; within = inside; best = best_there }
+
+same_way_count : (n k : ℕ) → NoWay n ≡ NoWay k → n ≡ k
+same_way_count n k e = cc
+
+-- whatever a search tells, it counts what it settled
+pub all_counted : {T : Type 0} (m : Scale T) (g : Net T) (p : Plant) (start goal : ℕ) (s : State T) (count : ℕ) (way way' settled : List ℕ) (r : Result (Found T) Refusal)
+    → Told m g start goal s count way way' r → Counted p settled count → AllCounted p settled r
+all_counted m g p start goal s count way way' settled (Ok f) told counted = subst (Counted p settled) (sym told.0) counted
+all_counted m g p start goal s count way way' settled (Err r) told counted = λ n e. subst (Counted p settled) (same_way_count count n (sym told.0 ∙ e)) counted

@@ -10,7 +10,8 @@ use Rattle.walks.specs.Net.{Net, net, junctions}
 use Rattle.walks.specs.Search.{State, Settled, Traced}
 use Rattle.walks.specs.Tables.{tabled}
 use Rattle.walks.specs.Walk.{Walk, Leads, total, Best}
-use Rattle.search.specs.Desk.{Desk, sizes}
+use Rattle.search.specs.Desk.{sizes}
+pub use Rattle.search.specs.Desk.{Desk}
 use Rattle.search.specs.Explored.{Left}
 use Rattle.search.specs.declared.found.Found.{Found}
 

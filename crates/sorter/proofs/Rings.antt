@@ -1,5 +1,5 @@
 -- Junctions and legs of a ring. Assumes nothing.
-use Rattle.std.proofs.Common.{◌≡◌, ℕ, ◌+◌, ◌-◌, ◌<◌, Bool, true, false, leb, ltb, cond, map, List, Some, sym, refl, ap, ◌∙◌, ⊎_elim, arith}
+use Rattle.std.proofs.Common.{◌≡◌, ℕ, ◌+◌, ◌-◌, ◌<◌, ◌≤◌, Bool, true, false, leb, ltb, cond, map, List, Some, None, sym, refl, ap, ◌∙◌, ⊎_elim, arith}
 use Rattle.std.specs.Bool.{then_some}
 use Rattle.std.specs.List.{range_with_len, slice_get}
 use Rattle.std.proofs.lemmas.Bool.{cases_lt, lt-ltb, le-ltb, leb-true, leb-false}
@@ -18,16 +18,19 @@ counted_at f n i =
     (λ le. nth_uncounted f n i le ∙ sym (ap (λ b. then_some b (f i)) (le-ltb i n le)))
     (cases_lt i n)
 
--- an end of a leg
+-- an end of a leg, or that there is none
 module _ (l : SorterLoop) (end : Leg → ℕ) (i : ℕ) where
   pub end_at : i < l.junctions → slice_get (map end (ring l).legs) i ≡ Some (end (ring_leg l i))
   end_at lt = slice_get-map end (ring l).legs i ∙ ap (option_map end) (nth_counted (ring_leg l) l.junctions i lt)
+
+  end_past : l.junctions ≤ i → slice_get (map end (ring l).legs) i ≡ None
+  end_past le = slice_get-map end (ring l).legs i ∙ ap (option_map end) (nth_uncounted (ring_leg l) l.junctions i le)
 
   pub from_end : (j : ℕ) → slice_get (map end (ring l).legs) i ≡ Some j → (i < l.junctions) × (end (ring_leg l i) ≡ j)
   from_end j e =
       ⊎_elim
       (λ lt. (lt, same_Some _ _ (sym (end_at lt) ∙ e)))
-      (λ ge. absurd (none-some j (sym (slice_get-map end (ring l).legs i ∙ ap (option_map end) (nth_uncounted (ring_leg l) l.junctions i ge)) ∙ e)))
+      (λ ge. absurd (none-some j (sym (end_past ge) ∙ e)))
       (cases_lt i l.junctions)
 
 -- the next place of a number that stands at k alone

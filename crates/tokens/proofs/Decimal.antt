@@ -7,7 +7,7 @@ use Rattle.std.proofs.ByRecursion.{All-from_get_or}
 use Rattle.std.specs.List.{AllByRecursion}
 use Rattle.std.proofs.lemmas.Fmt.{decimal_digit, decimal-digits_value, digits_decimal, decimal_nonempty, length-decimal-le, first_decimal, decimal_injective}
 use Rattle.std.proofs.lemmas.Int.Digits.{digits_more}
-use Rattle.std.proofs.lemmas.List.{at_drop_more}
+use Rattle.std.proofs.lemmas.List.{at_drop_more, at_drop_all, take_all}
 use Rattle.tokens.specs.Values.{Plain, Small, Numeral}
 
 own : IsNumeralModel (AllDigits 10) (digits_value 10)
@@ -83,6 +83,10 @@ read_more start ds i n d inside read low is =
       same = ap (λ m. digits_value_after 10 m (drop (i + 1) ds)) step ∙ sym (at_drop_more (digits_value_after 10 n) ds i 0 inside) ∙ read.same;
       low = omega (arith, read.low, pow-add 10 (i + 1) 1);
     }
+
+pub read_all : (start : ℕ) (ds : List ℕ) (i n : ℕ) → length ds ≤ i → Read start ds i n → AllDigits 10 ds × (n ≡ digits_value_after 10 start ds)
+read_all start ds i n past read =
+    (subst (AllDigits 10) (take_all i ds past) read.digits, sym (at_drop_all (digits_value_after 10 n) ds i past) ∙ read.same)
 
 -- digits are plain characters
 pub plain_decimal : (n : ℕ) → Small n → AllByRecursion Plain (decimal n)

@@ -54,6 +54,18 @@ takes_first line after n ns (part, (due, plain, inr (last, next)), (small, is)) 
 takes_first line after n ns (part, (due, plain, inr (last, next)), (small, is)) (inr (_, empty)) =
     subst (λ l. LeftNumbers line (n ∷ l)) (sym empty) (inl (due, ((small, tt), last ∙ is)))
 
+-- a list of one byte is that byte
+pub one_byte : (bytes : List ℕ) → length bytes ≡ 1 → bytes ≡ get_or bytes 0 0 ∷ []
+one_byte [] one = absurd (omega arith)
+one_byte (b ∷ []) one = refl
+one_byte (b ∷ c ∷ bytes) one = absurd (omega arith)
+
+-- where the value that was taken is the last, the letter left is the letter that it is
+pub letter_taken : (line after : Line) (part : Bytes) (r : Option ℕ) → Takes line (Value part) after → after.due ≡ Due.Nothing → MatchOption r ((c : ℕ) → OneLetter part.now c → ⊥) (λ c. OneLetter part.now c) → MatchOption r ((c : ℕ) → LeftLetter line c → ⊥) (λ c. LeftLetter line c)
+letter_taken line after part r (due, plain, inl (cut, next)) last told = absurd (value_not_nothing _ next last)
+letter_taken line after part None (due, plain, inr (is, next)) last told = λ c h. told c (h.1.0, sym is ∙ h.1.1)
+letter_taken line after part (Some c) (due, plain, inr (is, next)) last told = (due, (told.0, is ∙ told.1))
+
 -- a letter is a plain value
 letter_plain : (value : List ℕ) (c : ℕ) → OneLetter value c → AllByRecursion Plain value
 letter_plain value c (small, is) = subst (AllByRecursion Plain) (sym is) (inr small, tt)
@@ -70,11 +82,18 @@ letter_last line c (due, letter) = (due, letter_plain (left line) c letter, inr 
 pub letter_stuck : (line : Line) → ((part : Bytes) (after : Line) → Takes line (Value part) after → ⊥) → (c : ℕ) → LeftLetter line c → ⊥
 letter_stuck line stuck c h = stuck line.rest (spent line) (letter_last line c h)
 
+-- nor where more follows the value taken
+pub letter_not_last : (line after : Line) (part : Bytes) → Takes line (Value part) after → (after.due ≡ Due.Nothing → ⊥) → (c : ℕ) → LeftLetter line c → ⊥
+letter_not_last line after part takes more c h = more (one_value line part line.rest after (spent line) takes (letter_last line c h)).1.due
+
 -- of the k numbers that were left at the entry, the first ones were found, and the others are left in line
 pub record Found (k : ℕ) (entry line : Line) (found : List ℕ) (place : ℕ) : Type 0 where
   pub size : length found ≡ k
   pub first : (ns : List ℕ) → LeftNumbers line ns → LeftNumbers entry (take place found ++ ns)
   pub only : (ms : List ℕ) → length ms ≡ k → LeftNumbers entry ms → (take place ms ≡ take place found) × LeftNumbers line (drop place ms)
+
+pub found_none : (k : ℕ) (line : Line) (found : List ℕ) → length found ≡ k → Found k line line found 0
+found_none k line found size = record { size = size; first = λ ns h. h; only = λ ms _ h. (refl, h) }
 
 pub found_more : (k : ℕ) (entry line after : Line) (found : List ℕ) (place n : ℕ) → place < k → Found k entry line found place → TakesNumber line n after → Found k entry after (set found place n) (place + 1)
 found_more k entry line after found place n inside h takes =
@@ -135,3 +154,14 @@ one_list value (n ∷ j ∷ ns) (m ∷ k ∷ ms) one other =
 -- a value is one letter
 pub one_letter : (value : List ℕ) (c d : ℕ) → OneLetter value c → OneLetter value d → c ≡ d
 one_letter value c d one other = let e = sym one.1 ∙ other.1 in cc
+
+-- what `numbers` answers where a value is due, in terms of its bytes
+pub numbers_read : (line : Line) (k : ℕ) (r : Option (List ℕ)) → line.due ≡ Due.Value → MatchOption r ((ns : List ℕ) → length ns ≡ k → LeftNumbers line ns → ⊥) (λ ns. (length ns ≡ k) × LeftNumbers line ns) → MatchOption r ((ns : List ℕ) → length ns ≡ k → Numbers (left line) ns → ⊥) (λ ns. (length ns ≡ k) × Numbers (left line) ns)
+numbers_read line k None due told = λ ns long h. told ns long (inl (due, h))
+numbers_read line k (Some ns) due (long, inl (_, h)) = (long, h)
+numbers_read line k (Some ns) due (long, inr (spent, _)) = absurd (value_not_nothing _ due spent)
+
+-- what `letter` answers there
+pub letter_read : (line : Line) (r : Option ℕ) → line.due ≡ Due.Value → MatchOption r ((c : ℕ) → LeftLetter line c → ⊥) (λ c. LeftLetter line c) → MatchOption r ((c : ℕ) → OneLetter (left line) c → ⊥) (λ c. OneLetter (left line) c)
+letter_read line None due told = λ c h. told c (due, h)
+letter_read line (Some c) due told = told.1

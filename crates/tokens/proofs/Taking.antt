@@ -1,13 +1,15 @@
 -- What the token that is due can be, and that a line has at most one next token.
-use Rattle.std.proofs.Common.{◌≡◌, ℕ, ◌+◌, ◌<◌, List, [], ◌∷◌, ◌++◌, length, get_or, take, drop, sym, refl, ap, ◌∙◌, subst, inl, inr, ⊎_elim, arith}
+use Rattle.std.proofs.Common.{◌≡◌, ℕ, ◌+◌, ◌<◌, ◌⊎◌, List, [], ◌∷◌, ◌++◌, length, get_or, take, drop, sym, refl, ap, ◌∙◌, subst, inl, inr, ⊎_elim, arith}
 use Rattle.std.specs.List.{AllByRecursion}
 use Rattle.std.proofs.ByRecursion.{All-weaker}
 use Rattle.std.proofs.lemmas.List.{take-append-drop, drop_more}
+use Rattle.tokens.specs.declared.line.Class.{Class}
+use Rattle.tokens.specs.declared.line.Class.TheVariants.{Digit, Comma, Letter, Other}
 use Rattle.tokens.specs.declared.line.Due.{Due}
 use Rattle.tokens.specs.declared.line.Line.{Line}
 use Rattle.tokens.specs.declared.line.Token.TheVariants.{Key, Value}
 use Rattle.tokens.specs.Cuts.{Lacks, FirstAt, Cut, Keyless}
-use Rattle.tokens.specs.Taken.{Bytes, left, Takes, Stuck, PlainUpTo, Stray}
+use Rattle.tokens.specs.Taken.{Bytes, left, Takes, Stuck, OfClass, PlainUpTo, Stray}
 use Rattle.tokens.specs.Values.{Plain}
 use Rattle.tokens.proofs.Cutting.{lacks_not_cut, one_cut, lacks_or_cut}
 
@@ -18,6 +20,9 @@ lent line bytes = record { ref_ptr = line.rest.ref_ptr; now = bytes }
 -- what is due is one of three
 pub key_not_value : (d : Due) → d ≡ Due.Key → d ≡ Due.Value → ⊥
 key_not_value d p q = let z : ◌≡◌ {A = ℕ} 0 1 = cc in omega arith
+
+pub key_not_nothing : (d : Due) → d ≡ Due.Key → d ≡ Due.Nothing → ⊥
+key_not_nothing d p q = let z : ◌≡◌ {A = ℕ} 0 1 = cc in omega arith
 
 pub value_not_nothing : (d : Due) → d ≡ Due.Value → d ≡ Due.Nothing → ⊥
 value_not_nothing d p q = let z : ◌≡◌ {A = ℕ} 0 1 = cc in omega arith
@@ -33,6 +38,11 @@ plain_lacks_comma part plain = All-weaker Plain (λ b. b ≡ 44 → ⊥) plain_n
 pub keyless_stuck : (line : Line) → line.due ≡ Due.Key → Keyless (left line) → Stuck line
 keyless_stuck line due lacks (Key key) after takes = lacks_not_cut 61 _ _ _ lacks takes.1
 keyless_stuck line due lacks (Value part) after takes = key_not_value _ due takes.0
+
+-- a line with nothing due gives nothing
+pub spent_stuck : (line : Line) → line.due ≡ Due.Nothing → Stuck line
+spent_stuck line due (Key key) after takes = key_not_nothing _ takes.0 due
+spent_stuck line due (Value part) after takes = value_not_nothing _ takes.0 due
 
 -- a stray character stands in any first part
 stray_in_part : (front : List ℕ) (odd : ℕ) (rest part more : List ℕ) → AllByRecursion Plain front → (Plain odd → ⊥) → (odd ≡ 44 → ⊥) → AllByRecursion Plain part → front ++ (odd ∷ rest) ≡ part ++ (44 ∷ more) → ⊥
@@ -70,6 +80,13 @@ stray_at bytes n inside plain np nc = record {
   not_comma = nc;
 }
 
+-- a digit or a letter is plain
+pub plain_from_class : (class : Class) (byte : ℕ) → OfClass class byte → (class ≡ Digit) ⊎ (class ≡ Letter) → Plain byte
+plain_from_class Digit byte is either = inl is
+plain_from_class Letter byte is either = inr is
+plain_from_class Comma byte is either = absurd (let z : ◌≡◌ {A = ℕ} 0 1 = ⊎_elim (λ e. cc) (λ e. cc) either in omega arith)
+plain_from_class Other byte is either = absurd (let z : ◌≡◌ {A = ℕ} 0 1 = ⊎_elim (λ e. cc) (λ e. cc) either in omega arith)
+
 -- a value that reaches to the end of the line is not cut off at a comma
 cut_not_last : (line : List ℕ) (part rest : List ℕ) → Cut 44 line part rest → AllByRecursion Plain line → ⊥
 cut_not_last line part rest cut plain = lacks_not_cut 44 line part rest (plain_lacks_comma line plain) cut
@@ -88,6 +105,10 @@ one_value line p q one other (_, pp, inl (c, d)) (_, qq, inr (e, f)) = absurd (c
 one_value line p q one other (_, pp, inr (c, d)) (_, qq, inl (e, f)) = absurd (cut_not_last (left line) _ _ e (subst (AllByRecursion Plain) (sym c) pp))
 one_value line p q one other (_, pp, inr (c, d)) (_, qq, inr (e, f)) =
     (sym c ∙ e, record { due = d ∙ sym f; bytes = λ v. absurd (value_not_nothing _ v d) })
+
+-- where the key is due, no value comes
+pub key_taken_no_value : (line : Line) (key part : Bytes) (one other : Line) → Takes line (Key key) one → Takes line (Value part) other → ⊥
+key_taken_no_value line key part one other k v = key_not_value _ k.0 v.0
 
 -- a line whose key is due and that gives none has no `=`
 pub stuck_keyless : (line : Line) → line.due ≡ Due.Key → Stuck line → Keyless (left line)
